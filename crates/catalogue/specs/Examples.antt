@@ -1,0 +1,5 @@
+-- Worked examples, proved about the definitions by computing them.
+pub mod Rows
+pub mod Checked
+pub mod Damaged
+pub mod More

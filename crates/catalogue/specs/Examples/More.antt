@@ -1,0 +1,49 @@
+-- Examples beside P1 to P10, for what those ten leave open.
+use mathlib.Core.Path.{_≡_, refl}
+use mathlib.Core.List.{List, [], _∷_, _++_, map}
+use lib.IntN.{ℤ, pos, negsuc}
+use Rattle.catalogue.specs.Runs.{sweeps}
+use Rattle.catalogue.specs.Examples.Rows.{Example, prints, answers, meets, found, expected, call, stepped}
+use Rattle.catalogue.specs.Examples.Checked.{unused, both-inserted, on-trial}
+
+-- The target of an ADDED edge is removed: the contents line still counts the edge, and no line shows it.
+abbrev dead-target : Example
+dead-target = prints
+    "1 4 16\n1 5\n1 7\n4 5 7\n2 7\n0 0 0 0 0 0 0 0 0 0 0 0 0 0 0 0\n"
+    "4 1 1\n2 0 1 1\n5 0 1 1\n13 0 4 1\n16 0 2 1\n5\n"
+
+-- Keys around zero, listed in rising order; a second worker has no request, and its turn does nothing but count.
+abbrev around-zero : Example
+around-zero = prints
+    "2 3 0 8\n1 3\n1 -3\n1 0\n0 1 0 0 0 0 0 0\n"
+    "3 3 0\n3 0 1 1\n5 0 1 1\n8 0 1 1\n-3\n0\n3\n"
+
+-- A bad line, as the drill names it.
+abbrev bad-line : Example
+bad-line = prints "1 1 1\n7 5\n0\n" "refused 27 2\n"
+
+-- Every reply of the second table's rows that P1 to P10 do not give: 2 for each of codes 1 to 3, 4, 5, 7, and 1 for codes 3, 5 and 6.
+abbrev other-replies : Example
+other-replies = answers 2
+    (on-trial ++ (call 1 4 (pos 5) (pos 7) 4 ++ (stepped 0 3 ++ (call 1 4 (pos 5) (pos 7) 4 ++ (call 1 6 (pos 5) (pos 7) 4
+    ++ (call 1 3 (pos 7) unused 2 ++ (call 1 5 (pos 5) (pos 7) 4 ++ (call 1 5 (pos 5) (pos 7) 5 ++ (call 1 1 (pos 5) unused 1
+    ++ (call 1 2 (pos 6) unused 2 ++ (call 1 3 (pos 6) unused 2 ++ call 1 4 (pos 6) (pos 5) 2)))))))))))
+    (1 ∷ 1 ∷ 7 ∷ 1 ∷ 4 ∷ 1 ∷ 1 ∷ 1 ∷ 5 ∷ 2 ∷ 2 ∷ 2 ∷ 3 ∷ [])
+
+-- A sweep keeps the live graph under new numbers: of 4, 5 and 7 the first is removed; the edge 5 to 7 is there after it, and 7 to 5 closes a loop.
+abbrev swept : Example
+swept = answers 1
+    (call 0 1 (pos 4) unused 1 ++ (call 0 1 (pos 5) unused 2 ++ (call 0 1 (pos 7) unused 3 ++ (call 0 4 (pos 5) (pos 7) 9
+    ++ (call 0 2 (pos 4) unused 1 ++ (sweeps ∷ (call 0 6 (pos 5) (pos 7) 4 ++ (call 0 4 (pos 7) (pos 5) 8 ++ call 0 3 (pos 4) unused 1))))))))
+    (1 ∷ 1 ∷ 1 ∷ 1 ∷ 1 ∷ 1 ∷ 6 ∷ 2 ∷ [])
+
+-- The number of series met, choice by choice: 1 when a trial begins, 2 once it has crossed the other's edge, 0 with the reply.
+abbrev met-counts : Example
+met-counts = meets 2 (both-inserted ++ stepped 0 4) (0 ∷ 0 ∷ 0 ∷ 0 ∷ 0 ∷ 0 ∷ 0 ∷ 0 ∷ 0 ∷ 1 ∷ 0 ∷ 0 ∷ 0 ∷ 0 ∷ 1 ∷ 1 ∷ 2 ∷ 2 ∷ 0 ∷ [])
+
+abbrev pub table : List Example
+table = dead-target ∷ around-zero ∷ bad-line ∷ other-replies ∷ swept ∷ met-counts ∷ []
+
+pub checked : map found table ≡ map expected table
+unfolding found expected
+checked = refl

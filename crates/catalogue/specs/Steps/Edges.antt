@@ -1,0 +1,97 @@
+-- Document 01, "The steps", the paragraph on AddE and RemE, with its cases (a) to (f).
+use Prim.Native.Nat.{ℕ}
+use lib.IntN.{ℤ}
+use lib.Signed.{ltZ}
+use lib.Dec.{eqb, ltb}
+use Rattle.catalogue.specs.Tests.{pick, eqZ}
+use Rattle.catalogue.specs.Numbers.{edge-pool, edge-tail, most-edges, plain, marked, transit, added, room}
+use Rattle.catalogue.specs.Catalogue.{Catalogue, vertex-link, first-link, edge-key, edge-link, edge-target, at-edge, at-target, at-mark}
+use Rattle.catalogue.specs.Steps.Places.{edge-place}
+use Rattle.catalogue.specs.Steps.Both.{see-both, at-both}
+use Rattle.catalogue.specs.declared.links.Room.{Room}
+use Rattle.catalogue.specs.declared.links.Room.the-variants as room
+use Rattle.catalogue.specs.declared.links.EdgeLink.{EdgeLink}
+use Rattle.catalogue.specs.declared.workers.Prev.{Prev}
+use Rattle.catalogue.specs.declared.workers.Prev.the-variants.{First, Edge}
+use Rattle.catalogue.specs.declared.workers.Place.the-variants.{Trial}
+use Rattle.catalogue.specs.declared.writes.Write.{Write}
+use Rattle.catalogue.specs.declared.writes.Write.the-variants as write
+use Rattle.catalogue.specs.declared.steps.EdgeSeen.{EdgeSeen}
+use Rattle.catalogue.specs.declared.steps.EdgeSeen.the-variants as seen
+use Rattle.catalogue.specs.declared.steps.Decision.{Decision}
+use Rattle.catalogue.specs.declared.steps.Decision.the-variants.{Torn, Going, Begins, Reply}
+
+-- p's link: the first-edge link of u, or the link of an edge node.
+abbrev pub link-behind : Catalogue → ℕ → Prev → EdgeLink
+link-behind C u First = first-link C u
+link-behind C u (Edge p) = edge-link C p
+
+-- (e), (f): c's key.
+unfoldable pub see-key : Catalogue → ℤ → ℕ → ℕ → ℕ → ℕ → EdgeSeen
+see-key C l c kept next tag = pick (ltZ (edge-key C c) l) (seen.Onward next) (seen.Settles kept next tag)
+
+-- (c), (d): c's tag, and for an ADDED edge the mark of its target. The tail has no tag.
+unfoldable pub see-edge : Catalogue → ℤ → ℕ → ℕ → EdgeSeen
+see-edge C l c kept =
+    pick (eqb c edge-tail) (see-key C l c kept edge-tail plain)
+    (at-edge (edge-link C c) seen.Torn (λ next tag.
+    pick (eqb tag marked) (seen.Unlinks kept next)
+    (pick (eqb tag added)
+    (at-target (edge-target C c) seen.Torn (λ y.
+    at-mark (vertex-link C y) seen.Torn (seen.Marks next) (see-key C l c kept next tag)))
+    (see-key C l c kept next tag))))
+
+-- (b): p is MARKED, or its link does not lead to c. c is looked at only for an unmarked p.
+unfoldable pub see-behind : Catalogue → ℤ → ℕ → Prev → ℕ → EdgeSeen
+see-behind C l u p c =
+    at-edge (link-behind C u p) seen.Torn (λ to tag.
+    pick (eqb tag marked) seen.Again
+    (pick (ltb c edge-pool) (pick (eqb to c) (see-edge C l c tag) seen.Again) seen.Torn))
+
+-- (a): u or v marked; then the rest.
+unfoldable pub look-at-edge : Catalogue → ℤ → ℕ → ℕ → Prev → ℕ → EdgeSeen
+look-at-edge C l u v p c = at-both (see-both C u v) seen.Torn seen.Dead (see-behind C l u p c)
+
+-- (c): p's link leads to another node, and keeps its tag.
+abbrev pub relink : ℕ → Prev → ℕ → ℕ → Write
+relink u First kept next = write.FirstEdge u next
+relink u (Edge p) kept next = write.EdgeLink p next kept
+
+-- (f) for AddE: an edge handed out behind p, which keeps its tag.
+abbrev pub insert : ℕ → Prev → ℕ → ℕ → ℤ → ℕ → ℕ → Write
+insert u First kept n l v next = write.NewFirst n l v next u
+insert u (Edge p) kept n l v next = write.NewEdge n l v next p kept
+
+-- (f) for AddE with no such key: the next edge of the pool, on trial, and v the first vertex met; or no room.
+abbrev pub new-edge : Room → ℤ → ℤ → ℕ → ℕ → Prev → ℕ → ℕ → Decision
+new-edge (room.Next n) k l u v p c kept = Begins (Trial k l u v n) (insert u p kept n l v c) v
+new-edge room.Full k l u v p c kept = Reply 9 write.Nothing
+new-edge room.Torn k l u v p c kept = Torn
+
+unfoldable pub settle-add-edge : Catalogue → ℤ → ℤ → ℕ → ℕ → Prev → ℕ → ℕ → ℕ → Decision
+settle-add-edge C k l u v p c kept tag =
+    pick (eqZ (edge-key C c) l) (Reply (pick (eqb tag transit) 7 4) write.Nothing)
+    (new-edge (room most-edges 1 (C .edges-out)) k l u v p c kept)
+
+-- (f) for RemE: an ADDED edge gets its mark; an edge on trial is nobody's but its adder's.
+unfoldable pub settle-remove-edge : Catalogue → ℤ → ℕ → ℕ → ℕ → Decision
+settle-remove-edge C l c next tag =
+    pick (eqZ (edge-key C c) l) (pick (eqb tag added) (Reply 1 (write.EdgeLink c next marked)) (Reply 5 write.Nothing)) (Reply 5 write.Nothing)
+
+-- Settling goes by the code.
+unfoldable pub settle-edge : Catalogue → ℕ → ℤ → ℤ → ℕ → ℕ → Prev → ℕ → ℕ → ℕ → ℕ → Decision
+settle-edge C code k l u v p c kept next tag =
+    pick (eqb code 4) (settle-add-edge C k l u v p c kept tag) (settle-remove-edge C l c next tag)
+
+-- What follows from what was seen.
+abbrev pub decide-edge : Catalogue → ℕ → ℤ → ℤ → ℕ → ℕ → Prev → ℕ → EdgeSeen → Decision
+decide-edge C code k l u v p c seen.Torn = Torn
+decide-edge C code k l u v p c seen.Dead = Reply 3 write.Nothing
+decide-edge C code k l u v p c seen.Again = at-edge (first-link C u) Torn (λ first tag. Going (edge-place code k l u v First first) write.Nothing)
+decide-edge C code k l u v p c (seen.Unlinks kept next) = Going (edge-place code k l u v p next) (relink u p kept next)
+decide-edge C code k l u v p c (seen.Marks next) = Going (edge-place code k l u v p c) (write.EdgeLink c next marked)
+decide-edge C code k l u v p c (seen.Onward next) = Going (edge-place code k l u v (Edge c) next) write.Nothing
+decide-edge C code k l u v p c (seen.Settles kept next tag) = settle-edge C code k l u v p c kept next tag
+
+unfoldable pub step-edge : Catalogue → ℕ → ℤ → ℤ → ℕ → ℕ → Prev → ℕ → Decision
+step-edge C code k l u v p c = decide-edge C code k l u v p c (look-at-edge C l u v p c)

@@ -1,0 +1,32 @@
+// What the calls answer.
+use crate::workers::Table;
+
+// The refusals that a call on workers and catalogues can give. That of a script carries its line: see the module `script`.
+pub enum Refusal {
+    Room,
+    Worker,
+    Busy,
+    Idle,
+    Code,
+    Key,
+    Torn,
+}
+
+// What taking up and a step answer: going on, with the number of series that the trial has met; a reply; or a refusal.
+pub enum Answer {
+    Going { met: u32 },
+    Reply { number: u8 },
+    Refused { refusal: Refusal },
+}
+
+// The answer, with the table as the call leaves it.
+pub struct Outcome {
+    pub table: Table,
+    pub answer: Answer,
+}
+
+// What a call answers that makes a whole catalogue: a fresh one, or a sweep's.
+pub enum Made {
+    Done,
+    Refused { refusal: Refusal },
+}
