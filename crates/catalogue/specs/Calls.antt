@@ -9,7 +9,7 @@ use Rattle.catalogue.specs.Catalogue.{Catalogue, vertex-link, at-vertex}
 use Rattle.catalogue.specs.Writes.{commit}
 use Rattle.catalogue.specs.Workers.{bare, worker-at, put, busy}
 use Rattle.catalogue.specs.Steps.Places.{code-known, key-refused, first-place}
-use Rattle.catalogue.specs.Steps.Decide.{decide, record-after, write-of, answer-of, torn-or}
+use Rattle.catalogue.specs.Steps.Decide.{decide, record-after, write-of, answer-of, refused-or}
 use Rattle.catalogue.specs.declared.workers.Worker.{Worker}
 use Rattle.catalogue.specs.declared.workers.Table.{Table}
 use Rattle.catalogue.specs.declared.answers.Refusal.{Refusal}
@@ -48,11 +48,11 @@ take-up C t w code k l =
     (refuse C t refusal.Code)))
     (refuse C t refusal.Worker)
 
--- A step that has decided: at most one write, the worker's record and the answer; 26 changes nothing.
+-- A step that has decided: at most one write, the worker's record and the answer; a refusal changes nothing.
 abbrev pub perform : Catalogue → Table → ℕ → Worker → Decision → After
 perform C t n w d =
     let after = record-after w d in
-    torn-or d (refuse C t refusal.Torn) (record { catalogue = commit C (write-of d); table = put t n after; answer = answer-of d after })
+    refused-or d (refuse C t) (record { catalogue = commit C (write-of d); table = put t n after; answer = answer-of d after })
 
 -- A step: 21, 23, then 26, which the decision brings with it.
 unfoldable pub step : Catalogue → Table → ℕ → After

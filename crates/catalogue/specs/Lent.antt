@@ -3,6 +3,7 @@
 -- 256 first-edge links, 2,048 edge targets, 2,048 edge links.
 use Prim.Native.Nat.{ℕ, _+_}
 use mathlib.Core.Bool.{Bool, true, false}
+use mathlib.Core.Path.{_≡_}
 use mathlib.Core.List.{List, [], _∷_, _++_}
 use lib.IntN.{ℤ, pos}
 use lib.ListN.{length, getD}
@@ -38,18 +39,46 @@ words-size = 4610
 abbrev pub output-size : ℕ
 output-size = 65536
 
+-- where each field stands
+abbrev pub vertex-count : List ℕ → ℕ
+vertex-count words = getD words 0 0
+
+abbrev pub edge-count : List ℕ → ℕ
+edge-count words = getD words 1 0
+
+abbrev pub vkeys : List ℤ → ℕ → ℤ
+vkeys keys n = getD keys n (pos 0)
+
+abbrev pub ekeys : List ℤ → ℕ → ℤ
+ekeys keys n = getD keys (256 + n) (pos 0)
+
+abbrev pub vlinks : List ℕ → ℕ → ℕ
+vlinks words n = getD words (2 + n) 0
+
+abbrev pub firsts : List ℕ → ℕ → ℕ
+firsts words n = getD words (258 + n) 0
+
+abbrev pub targets : List ℕ → ℕ → ℕ
+targets words n = getD words (514 + n) 0
+
+abbrev pub elinks : List ℕ → ℕ → ℕ
+elinks words n = getD words (2562 + n) 0
+
 -- the catalogue that memory holds
 abbrev pub view : Memory → Catalogue
 view m = record {
-  vertices-out = getD (m .words) 0 0;
-  edges-out = getD (m .words) 1 0;
-  vkey = λ n. getD (m .keys) n (pos 0);
-  vlink = λ n. getD (m .words) (2 + n) 0;
-  first = λ n. getD (m .words) (258 + n) 0;
-  ekey = λ n. getD (m .keys) (256 + n) (pos 0);
-  target = λ n. getD (m .words) (514 + n) 0;
-  elink = λ n. getD (m .words) (2562 + n) 0;
+  vertices-out = vertex-count (m .words);
+  edges-out = edge-count (m .words);
+  vkey = vkeys (m .keys);
+  vlink = vlinks (m .words);
+  first = firsts (m .words);
+  ekey = ekeys (m .keys);
+  target = targets (m .words);
+  elink = elinks (m .words);
 }
+
+abbrev pub catalogue-in : List ℤ → List ℕ → Catalogue
+catalogue-in keys words = view (record { keys = keys; words = words })
 
 -- the memory that holds a catalogue
 unfoldable pub lay : Catalogue → Memory
@@ -63,6 +92,10 @@ lay C = record {
 -- 20: the stated sizes.
 unfoldable pub sized : Memory → Bool
 sized m = pick (eqb (length (m .keys)) keys-size) (eqb (length (m .words)) words-size) false
+
+pub record Sized (keys : List ℤ) (words : List ℕ) : Type 0 where
+  pub keyed : length keys ≡ keys-size
+  pub worded : length words ≡ words-size
 
 unfoldable pub output-fits : List ℕ → Bool
 output-fits output = leb output-size (length output)

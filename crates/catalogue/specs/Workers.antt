@@ -72,6 +72,10 @@ queued w place n =
 abbrev pub taken : Worker → Place → Worker
 taken w place = record { place = place; met = w .met; queue = w .queue; front = w .front + 1; back = w .back }
 
+-- What stands at the front of the queue.
+abbrev pub front-of : Worker → ℕ
+front-of w = getD (w .queue) (w .front) 0
+
 -- The request that a place belongs to; codes 1 to 3 have no second key.
 abbrev pub request-of : Place → Request
 request-of Idle = record { code = 0; k = pos 0; l = pos 0 }

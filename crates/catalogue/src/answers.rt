@@ -1,5 +1,6 @@
 // What the calls answer.
 use crate::workers::Table;
+use crate::workers::Worker;
 
 // The refusals that a call on workers and catalogues can give. That of a script carries its line: see the module `script`.
 pub enum Refusal {
@@ -22,6 +23,12 @@ pub enum Answer {
 // The answer, with the table as the call leaves it.
 pub struct Outcome {
     pub table: Table,
+    pub answer: Answer,
+}
+
+// One step of one record: the record after it, and the answer.
+pub struct Stepped {
+    pub worker: Worker,
     pub answer: Answer,
 }
 

@@ -11,7 +11,8 @@ pub enum VertexSeen {
     Unlinks { next: u8 },
     // c's key is lower
     Onward { next: u8 },
-    Settles { next: u8 },
+    // c's key is not lower; whether it is equal
+    Settles { next: u8, equal: bool },
 }
 
 // One look of ConV at c, which the edge calls share to find u and v.
@@ -38,13 +39,20 @@ pub enum EdgeSeen {
     Unlinks { kept: u8, next: u16 },
     Marks { next: u16 },
     Onward { next: u16 },
-    // p's tag, and c's next and tag
-    Settles { kept: u8, next: u16, tag: u8 },
+    // p's tag, c's next and tag, and whether c's key is equal
+    Settles {
+        kept: u8,
+        next: u16,
+        tag: u8,
+        equal: bool,
+    },
 }
 
 // What a step decides. It has read all that it reads; the record after it and at most one write follow from this alone.
 pub enum Decision {
     Torn,
+    // no call has this code
+    Code,
     // the place it goes on to; what a trial keeps is zero there
     Going { next: Place, write: Write },
     // a trial begins, with the first vertex met

@@ -18,12 +18,12 @@ use Rattle.catalogue.specs.Script.{next-line, split, value, all-of, sum,
 use Rattle.catalogue.specs.Soundness.{sound}
 use Rattle.catalogue.specs.Steps.Both.{see-both}
 use Rattle.catalogue.specs.Steps.Contains.{settle-contains-edge, step-contains-edge}
-use Rattle.catalogue.specs.Steps.Decide.{decide}
-use Rattle.catalogue.specs.Steps.Edges.{see-key, see-edge, see-behind, look-at-edge, settle-add-edge, settle-remove-edge, settle-edge, step-edge}
-use Rattle.catalogue.specs.Steps.Finding.{look-for, step-contains, not-found, step-find-u, step-find-v}
+use Rattle.catalogue.specs.Steps.Decide.{decide-at}
+use Rattle.catalogue.specs.Steps.Edges.{see-key, see-edge, see-behind, look-at-edge, settle-add-edge, settle-remove-edge, settle-edge, restart, step-edge}
+use Rattle.catalogue.specs.Steps.Finding.{look-for, step-contains, not-found, found-u, found-v, step-find-u, step-find-v}
 use Rattle.catalogue.specs.Steps.Places.{key-refused, vertex-place, find-u-place, find-v-place, edge-place, edges-place, first-place}
-use Rattle.catalogue.specs.Steps.Trial.{ends-fit, end-trial, cross, step-open, take-front, step-shut, step-trial}
-use Rattle.catalogue.specs.Steps.Vertices.{look-at-vertex, settle-add-vertex, settle-remove-vertex, settle-vertex, step-vertex}
+use Rattle.catalogue.specs.Steps.Trial.{ends-fit, end-trial, cross, pass-edge, step-open, take-front, step-shut, see-trial, trial-shut, trial-open}
+use Rattle.catalogue.specs.Steps.Vertices.{see-vertex, look-at-vertex, settle-add-vertex, settle-remove-vertex, settle-vertex, start-again, step-vertex}
 use Rattle.catalogue.specs.Sweep.{position, first-of, next-swept, next-swept-edge, swept, any-busy, sweep-into}
 use Rattle.catalogue.specs.Text.{digits, number, spaced, lines}
 use Rattle.catalogue.specs.Workers.{has, with-met, count, met-count}
@@ -61,7 +61,7 @@ turn-about zero = []
 turn-about (suc n) = steps 0 ∷ steps 1 ∷ turn-about n
 
 unfoldable pub found : Example → List ℕ
-unfolding count-fits worker-fits take-up step vertex-key-in vertex-link-in first-link-in edge-key-in edge-link-in edge-target-in drill result-text walk gather reserved room shares play run run-text telling next-line split value all-of sum unsnoc read-requests read-lines read-script sound see-both settle-contains-edge step-contains-edge decide see-key see-edge see-behind look-at-edge settle-add-edge settle-remove-edge settle-edge step-edge look-for step-contains not-found step-find-u step-find-v key-refused vertex-place find-u-place find-v-place edge-place edges-place first-place ends-fit end-trial cross step-open take-front step-shut step-trial look-at-vertex settle-add-vertex settle-remove-vertex settle-vertex step-vertex position first-of next-swept next-swept-edge swept any-busy sweep-into eqZ upd keep every member digits number spaced lines has with-met count met-count commit bytes numbers stepped turn-about
+unfolding count-fits worker-fits take-up step vertex-key-in vertex-link-in first-link-in edge-key-in edge-link-in edge-target-in drill result-text walk gather reserved room shares play run run-text telling next-line split value all-of sum unsnoc read-requests read-lines read-script sound see-both settle-contains-edge step-contains-edge decide-at see-key see-edge see-behind look-at-edge settle-add-edge settle-remove-edge settle-edge restart step-edge look-for step-contains not-found found-u found-v step-find-u step-find-v key-refused vertex-place find-u-place find-v-place edge-place edges-place first-place ends-fit end-trial cross pass-edge step-open take-front step-shut see-trial trial-shut trial-open see-vertex look-at-vertex settle-add-vertex settle-remove-vertex settle-vertex start-again step-vertex position first-of next-swept next-swept-edge swept any-busy sweep-into eqZ upd keep every member digits number spaced lines has with-met count met-count commit bytes numbers stepped turn-about
 found (prints script result) = drill (bytes script)
 found (answers workers choices told) = numbers (telling (start workers) choices)
 found (meets workers choices told) = map (λ t. t .met) (telling (start workers) choices)

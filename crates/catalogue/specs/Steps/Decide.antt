@@ -1,53 +1,62 @@
 -- Document 01, "The steps": one step of a worker by its place; what the record is after it, and what is answered.
 use Prim.Native.Nat.{ℕ}
+use mathlib.Core.List.{List}
 use lib.IntN.{ℤ}
 use Rattle.catalogue.specs.Tests.{pick}
 use Rattle.catalogue.specs.Catalogue.{Catalogue}
-use Rattle.catalogue.specs.Workers.{idle, bare, begun, kept, queued, taken, met-count, request-of}
+use Rattle.catalogue.specs.Workers.{idle, bare, begun, kept, queued, taken, met-count, request-of, front-of}
 use Rattle.catalogue.specs.Steps.Places.{key-refused}
 use Rattle.catalogue.specs.Steps.Vertices.{step-vertex}
 use Rattle.catalogue.specs.Steps.Finding.{step-contains, step-find-u, step-find-v}
 use Rattle.catalogue.specs.Steps.Contains.{step-contains-edge}
 use Rattle.catalogue.specs.Steps.Edges.{step-edge}
-use Rattle.catalogue.specs.Steps.Trial.{step-trial, step-open, step-shut}
+use Rattle.catalogue.specs.Steps.Trial.{trial-shut, trial-open}
 use Rattle.catalogue.specs.declared.workers.Place.{Place}
 use Rattle.catalogue.specs.declared.workers.Place.the-variants.{Idle, AddV, RemV, ConV, AddEFindU, RemEFindU, ConEFindU, AddEFindV, RemEFindV, ConEFindV, AddE, RemE, ConE, Trial, TrialOpen}
 use Rattle.catalogue.specs.declared.workers.Worker.{Worker}
 use Rattle.catalogue.specs.declared.writes.Write.{Write}
 use Rattle.catalogue.specs.declared.writes.Write.the-variants.{Nothing}
+use Rattle.catalogue.specs.declared.answers.Refusal.{Refusal}
 use Rattle.catalogue.specs.declared.answers.Refusal.the-variants as refusal
 use Rattle.catalogue.specs.declared.answers.Answer.{Answer}
 use Rattle.catalogue.specs.declared.answers.Answer.the-variants as answer
+use Rattle.catalogue.specs.declared.answers.Stepped.{Stepped}
 use Rattle.catalogue.specs.declared.steps.Decision.{Decision}
-use Rattle.catalogue.specs.declared.steps.Decision.the-variants.{Torn, Going, Begins, Keeps, Meets, Takes, Reply}
+use Rattle.catalogue.specs.declared.steps.Decision.the-variants.{Torn, Code, Going, Begins, Keeps, Meets, Takes, Reply}
 
--- The place says which step it is. An idle worker has none: who asks for it is refused before.
-abbrev pub step-at : Catalogue → Worker → Place → Decision
-step-at C w Idle = Torn
-step-at C w (AddV k p c) = step-vertex C 1 k p c
-step-at C w (RemV k p c) = step-vertex C 2 k p c
-step-at C w (ConV k c) = step-contains C k c
-step-at C w (AddEFindU k l c) = step-find-u C 4 k l c
-step-at C w (RemEFindU k l c) = step-find-u C 5 k l c
-step-at C w (ConEFindU k l c) = step-find-u C 6 k l c
-step-at C w (AddEFindV k l u c) = step-find-v C 4 k l u c
-step-at C w (RemEFindV k l u c) = step-find-v C 5 k l u c
-step-at C w (ConEFindV k l u c) = step-find-v C 6 k l u c
-step-at C w (AddE k l u v p c) = step-edge C 4 k l u v p c
-step-at C w (RemE k l u v p c) = step-edge C 5 k l u v p c
-step-at C w (ConE k l u v c) = step-contains-edge C k l u v c
-step-at C w (Trial k l u v e) = step-trial C (w .front) (w .back) u v e (step-shut C (w .queue) (w .front) (w .back) k l u v e)
-step-at C w (TrialOpen k l u v e x c) = step-trial C (w .front) (w .back) u v e (step-open C (w .met) (w .back) k l u v e x c)
+-- The place says which step it is; a trial also has the set met, the front x of its queue, and the queue's ends. An idle worker has no step: who asks
+-- for it is refused before.
+abbrev pub step-at : Catalogue → Place → List ℕ → ℕ → ℕ → ℕ → Decision
+step-at C Idle met x front back = Torn
+step-at C (AddV k p c) met x front back = step-vertex C 1 k p c
+step-at C (RemV k p c) met x front back = step-vertex C 2 k p c
+step-at C (ConV k c) met x front back = step-contains C k c
+step-at C (AddEFindU k l c) met x front back = step-find-u C 4 k l c
+step-at C (RemEFindU k l c) met x front back = step-find-u C 5 k l c
+step-at C (ConEFindU k l c) met x front back = step-find-u C 6 k l c
+step-at C (AddEFindV k l u c) met x front back = step-find-v C 4 k l u c
+step-at C (RemEFindV k l u c) met x front back = step-find-v C 5 k l u c
+step-at C (ConEFindV k l u c) met x front back = step-find-v C 6 k l u c
+step-at C (AddE k l u v p c) met x front back = step-edge C 4 k l u v p c
+step-at C (RemE k l u v p c) met x front back = step-edge C 5 k l u v p c
+step-at C (ConE k l u v c) met x front back = step-contains-edge C k l u v c
+step-at C (Trial k l u v e) met x front back = trial-shut C x front back k l u v e
+step-at C (TrialOpen k l u v e y c) met x front back = trial-open C met front back k l u v e y c
 
 -- The paragraph on TORN: the request's keys are looked at before anything else.
-unfoldable pub decide : Catalogue → Worker → Decision
-decide C w =
-    let r = request-of (w .place) in
-    pick (key-refused (r .code) (r .k) (r .l)) Torn (step-at C w (w .place))
+unfoldable pub decide-at : Catalogue → Place → List ℕ → ℕ → ℕ → ℕ → Decision
+decide-at C place met x front back =
+    let r = request-of place in
+    pick (key-refused (r .code) (r .k) (r .l)) Torn (step-at C place met x front back)
+
+-- What a worker's step decides.
+abbrev pub decide : Catalogue → Worker → Decision
+decide C w = decide-at C (w .place) (w .met) (front-of w) (w .front) (w .back)
 
 -- The record after the step: fields that the new place does not use are zero, after a reply all of them.
 abbrev pub record-after : Worker → Decision → Worker
 record-after w Torn = w
+record-after w Code = w
 record-after w (Going next write) = bare next
 record-after w (Begins next write v) = begun next v
 record-after w (Keeps next) = kept w next
@@ -58,6 +67,7 @@ record-after w (Reply number write) = idle
 -- The one write of the step.
 abbrev pub write-of : Decision → Write
 write-of Torn = Nothing
+write-of Code = Nothing
 write-of (Going next write) = write
 write-of (Begins next write v) = write
 write-of (Keeps next) = Nothing
@@ -65,22 +75,32 @@ write-of (Meets next y) = Nothing
 write-of (Takes next) = Nothing
 write-of (Reply number write) = write
 
--- The answer: a reply, or going on with the count of the set that the new record holds.
+-- Going on, with the count of the set that the new record holds.
+abbrev pub going : Worker → Answer
+going after = answer.Going (met-count (after .met))
+
+-- The answer: a reply, or going on.
 abbrev pub answer-of : Decision → Worker → Answer
 answer-of Torn after = answer.Refused refusal.Torn
-answer-of (Going next write) after = answer.Going (met-count (after .met))
-answer-of (Begins next write v) after = answer.Going (met-count (after .met))
-answer-of (Keeps next) after = answer.Going (met-count (after .met))
-answer-of (Meets next y) after = answer.Going (met-count (after .met))
-answer-of (Takes next) after = answer.Going (met-count (after .met))
+answer-of Code after = answer.Refused refusal.Code
+answer-of (Going next write) after = going after
+answer-of (Begins next write v) after = going after
+answer-of (Keeps next) after = going after
+answer-of (Meets next y) after = going after
+answer-of (Takes next) after = going after
 answer-of (Reply number write) after = answer.Reply number
 
--- A torn decision, against any other.
-abbrev pub torn-or : {A : Type 0} → Decision → A → A → A
-torn-or Torn torn else = torn
-torn-or (Going next write) torn else = else
-torn-or (Begins next write v) torn else = else
-torn-or (Keeps next) torn else = else
-torn-or (Meets next y) torn else = else
-torn-or (Takes next) torn else = else
-torn-or (Reply number write) torn else = else
+-- One step of one record.
+abbrev pub stepped : Worker → Decision → Stepped
+stepped w d = record { worker = record-after w d; answer = answer-of d (record-after w d) }
+
+-- A decision that refuses, against any other.
+abbrev pub refused-or : {A : Type 0} → Decision → (Refusal → A) → A → A
+refused-or Torn refused other = refused refusal.Torn
+refused-or Code refused other = refused refusal.Code
+refused-or (Going next write) refused other = other
+refused-or (Begins next write v) refused other = other
+refused-or (Keeps next) refused other = other
+refused-or (Meets next y) refused other = other
+refused-or (Takes next) refused other = other
+refused-or (Reply number write) refused other = other

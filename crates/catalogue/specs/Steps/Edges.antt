@@ -1,5 +1,6 @@
 -- Document 01, "The steps", the paragraph on AddE and RemE, with its cases (a) to (f).
 use Prim.Native.Nat.{ℕ}
+use mathlib.Core.Bool.{Bool, true, false}
 use lib.IntN.{ℤ}
 use lib.Signed.{ltZ}
 use lib.Dec.{eqb, ltb}
@@ -19,7 +20,7 @@ use Rattle.catalogue.specs.declared.writes.Write.the-variants as write
 use Rattle.catalogue.specs.declared.steps.EdgeSeen.{EdgeSeen}
 use Rattle.catalogue.specs.declared.steps.EdgeSeen.the-variants as seen
 use Rattle.catalogue.specs.declared.steps.Decision.{Decision}
-use Rattle.catalogue.specs.declared.steps.Decision.the-variants.{Torn, Going, Begins, Reply}
+use Rattle.catalogue.specs.declared.steps.Decision.the-variants.{Torn, Code, Going, Begins, Reply}
 
 -- p's link: the first-edge link of u, or the link of an edge node.
 abbrev pub link-behind : Catalogue → ℕ → Prev → EdgeLink
@@ -28,7 +29,9 @@ link-behind C u (Edge p) = edge-link C p
 
 -- (e), (f): c's key.
 unfoldable pub see-key : Catalogue → ℤ → ℕ → ℕ → ℕ → ℕ → EdgeSeen
-see-key C l c kept next tag = pick (ltZ (edge-key C c) l) (seen.Onward next) (seen.Settles kept next tag)
+see-key C l c kept next tag =
+    pick (ltZ (edge-key C c) l) (seen.Onward next)
+    (pick (eqZ (edge-key C c) l) (seen.Settles kept next tag true) (seen.Settles kept next tag false))
 
 -- (c), (d): c's tag, and for an ADDED edge the mark of its target. The tail has no tag.
 unfoldable pub see-edge : Catalogue → ℤ → ℕ → ℕ → EdgeSeen
@@ -68,30 +71,35 @@ new-edge (room.Next n) k l u v p c kept = Begins (Trial k l u v n) (insert u p k
 new-edge room.Full k l u v p c kept = Reply 9 write.Nothing
 new-edge room.Torn k l u v p c kept = Torn
 
-unfoldable pub settle-add-edge : Catalogue → ℤ → ℤ → ℕ → ℕ → Prev → ℕ → ℕ → ℕ → Decision
-settle-add-edge C k l u v p c kept tag =
-    pick (eqZ (edge-key C c) l) (Reply (pick (eqb tag transit) 7 4) write.Nothing)
+unfoldable pub settle-add-edge : Catalogue → ℤ → ℤ → ℕ → ℕ → Prev → ℕ → ℕ → ℕ → Bool → Decision
+settle-add-edge C k l u v p c kept tag equal =
+    pick equal (pick (eqb tag transit) (Reply 7 write.Nothing) (Reply 4 write.Nothing))
     (new-edge (room most-edges 1 (C .edges-out)) k l u v p c kept)
 
 -- (f) for RemE: an ADDED edge gets its mark; an edge on trial is nobody's but its adder's.
-unfoldable pub settle-remove-edge : Catalogue → ℤ → ℕ → ℕ → ℕ → Decision
-settle-remove-edge C l c next tag =
-    pick (eqZ (edge-key C c) l) (pick (eqb tag added) (Reply 1 (write.EdgeLink c next marked)) (Reply 5 write.Nothing)) (Reply 5 write.Nothing)
+unfoldable pub settle-remove-edge : ℕ → ℕ → ℕ → Bool → Decision
+settle-remove-edge c next tag equal =
+    pick equal (pick (eqb tag added) (Reply 1 (write.EdgeLink c next marked)) (Reply 5 write.Nothing)) (Reply 5 write.Nothing)
 
 -- Settling goes by the code.
-unfoldable pub settle-edge : Catalogue → ℕ → ℤ → ℤ → ℕ → ℕ → Prev → ℕ → ℕ → ℕ → ℕ → Decision
-settle-edge C code k l u v p c kept next tag =
-    pick (eqb code 4) (settle-add-edge C k l u v p c kept tag) (settle-remove-edge C l c next tag)
+unfoldable pub settle-edge : Catalogue → ℕ → ℤ → ℤ → ℕ → ℕ → Prev → ℕ → ℕ → ℕ → ℕ → Bool → Decision
+settle-edge C code k l u v p c kept next tag equal =
+    pick (eqb code 4) (settle-add-edge C k l u v p c kept tag equal)
+    (pick (eqb code 5) (settle-remove-edge c next tag equal) Code)
+
+-- (b) Starting again: at the first-edge link of u, and the node that it leads to.
+unfoldable pub restart : Catalogue → ℕ → ℤ → ℤ → ℕ → ℕ → Decision
+restart C code k l u v = at-edge (first-link C u) Torn (λ first tag. Going (edge-place code k l u v First first) write.Nothing)
 
 -- What follows from what was seen.
 abbrev pub decide-edge : Catalogue → ℕ → ℤ → ℤ → ℕ → ℕ → Prev → ℕ → EdgeSeen → Decision
 decide-edge C code k l u v p c seen.Torn = Torn
 decide-edge C code k l u v p c seen.Dead = Reply 3 write.Nothing
-decide-edge C code k l u v p c seen.Again = at-edge (first-link C u) Torn (λ first tag. Going (edge-place code k l u v First first) write.Nothing)
+decide-edge C code k l u v p c seen.Again = restart C code k l u v
 decide-edge C code k l u v p c (seen.Unlinks kept next) = Going (edge-place code k l u v p next) (relink u p kept next)
 decide-edge C code k l u v p c (seen.Marks next) = Going (edge-place code k l u v p c) (write.EdgeLink c next marked)
 decide-edge C code k l u v p c (seen.Onward next) = Going (edge-place code k l u v (Edge c) next) write.Nothing
-decide-edge C code k l u v p c (seen.Settles kept next tag) = settle-edge C code k l u v p c kept next tag
+decide-edge C code k l u v p c (seen.Settles kept next tag equal) = settle-edge C code k l u v p c kept next tag equal
 
 unfoldable pub step-edge : Catalogue → ℕ → ℤ → ℤ → ℕ → ℕ → Prev → ℕ → Decision
 step-edge C code k l u v p c = decide-edge C code k l u v p c (look-at-edge C l u v p c)

@@ -34,20 +34,26 @@ unfoldable pub not-found : ℕ → ℕ
 not-found code = pick (eqb code 6) 8 3
 
 -- The step that finds u goes back to the head's next by itself.
+unfoldable pub found-u : Catalogue → ℕ → ℤ → ℤ → ℕ → Decision
+found-u C code k l u = at-vertex (vertex-link C head) Torn (λ first tag. Going (find-v-place code k l u first) Nothing)
+
 abbrev pub decide-find-u : Catalogue → ℕ → ℤ → ℤ → ℕ → VertexFound → Decision
 decide-find-u C code k l c found.Torn = Torn
 decide-find-u C code k l c (found.Onward next) = Going (find-u-place code k l next) Nothing
-decide-find-u C code k l c found.Found = at-vertex (vertex-link C head) Torn (λ first tag. Going (find-v-place code k l c first) Nothing)
+decide-find-u C code k l c found.Found = found-u C code k l c
 decide-find-u C code k l c found.Missing = Reply (not-found code) Nothing
 
 unfoldable pub step-find-u : Catalogue → ℕ → ℤ → ℤ → ℕ → Decision
 step-find-u C code k l c = decide-find-u C code k l c (look-for C k c)
 
 -- The step that finds v reads u's first-edge link, and c is the node that it leads to.
+unfoldable pub found-v : Catalogue → ℕ → ℤ → ℤ → ℕ → ℕ → Decision
+found-v C code k l u v = at-edge (first-link C u) Torn (λ first tag. Going (edges-place code k l u v first) Nothing)
+
 abbrev pub decide-find-v : Catalogue → ℕ → ℤ → ℤ → ℕ → ℕ → VertexFound → Decision
 decide-find-v C code k l u c found.Torn = Torn
 decide-find-v C code k l u c (found.Onward next) = Going (find-v-place code k l u next) Nothing
-decide-find-v C code k l u c found.Found = at-edge (first-link C u) Torn (λ first tag. Going (edges-place code k l u c first) Nothing)
+decide-find-v C code k l u c found.Found = found-v C code k l u c
 decide-find-v C code k l u c found.Missing = Reply (not-found code) Nothing
 
 unfoldable pub step-find-v : Catalogue → ℕ → ℤ → ℤ → ℕ → ℕ → Decision

@@ -40,6 +40,10 @@ edge-place code k l u v p c = pick (eqb code 4) (AddE k l u v p c) (RemE k l u v
 unfoldable pub edges-place : ℕ → ℤ → ℤ → ℕ → ℕ → ℕ → Place
 edges-place code k l u v c = pick (eqb code 6) (ConE k l u v c) (edge-place code k l u v First c)
 
--- "Taking up": p is the head and c its next.
+-- "Taking up" goes by the code: p is the head and c its next.
 unfoldable pub first-place : ℕ → ℤ → ℤ → ℕ → Place
-first-place code k l c = pick (leb code 2) (vertex-place code k head c) (pick (eqb code 3) (ConV k c) (find-u-place code k l c))
+first-place code k l c =
+    pick (eqb code 1) (AddV k head c)
+    (pick (eqb code 2) (RemV k head c)
+    (pick (eqb code 3) (ConV k c)
+    (pick (eqb code 4) (AddEFindU k l c) (pick (eqb code 5) (RemEFindU k l c) (ConEFindU k l c)))))

@@ -3,7 +3,6 @@ use Prim.Native.Nat.{ℕ}
 use mathlib.Core.Bool.{Bool, true, false}
 use mathlib.Core.List.{List}
 use lib.IntN.{ℤ}
-use lib.ListN.{getD}
 use lib.Dec.{eqb, leb}
 use Rattle.catalogue.specs.Tests.{pick}
 use Rattle.catalogue.specs.Numbers.{edge-tail, marked, added}
@@ -13,6 +12,8 @@ use Rattle.catalogue.specs.Steps.Both.{see-both, at-both}
 use Rattle.catalogue.specs.declared.workers.Place.{Place}
 use Rattle.catalogue.specs.declared.workers.Place.the-variants.{Trial, TrialOpen}
 use Rattle.catalogue.specs.declared.writes.Write.the-variants.{EdgeLink}
+use Rattle.catalogue.specs.declared.steps.BothSeen.{BothSeen}
+use Rattle.catalogue.specs.declared.steps.BothSeen.the-variants as both
 use Rattle.catalogue.specs.declared.steps.Decision.{Decision}
 use Rattle.catalogue.specs.declared.steps.Decision.the-variants.{Torn, Keeps, Meets, Takes, Reply}
 
@@ -30,14 +31,18 @@ cross C met back y next =
     at-mark (vertex-link C y) Torn (Keeps next)
     (pick (has met y) (Keeps next) (pick (leb 256 back) Torn (Meets next y)))
 
--- (b) The vertex x is open at its edge c: x is marked or has no edge left, and is closed; else c is crossed or passed.
+-- (b) The edge c of the open vertex x: a MARKED one is passed, any other one leads to its target.
+unfoldable pub pass-edge : Catalogue → List ℕ → ℕ → ℤ → ℤ → ℕ → ℕ → ℕ → ℕ → ℕ → Decision
+pass-edge C met back k l u v e x c =
+    at-edge (edge-link C c) Torn (λ next tag.
+    pick (eqb tag marked) (Keeps (TrialOpen k l u v e x next))
+    (at-target (edge-target C c) Torn (λ y. cross C met back y (TrialOpen k l u v e x next))))
+
+-- (b) The vertex x is open at its edge c: if x is marked or has no edge left it is closed, else the edge is passed.
 unfoldable pub step-open : Catalogue → List ℕ → ℕ → ℤ → ℤ → ℕ → ℕ → ℕ → ℕ → ℕ → Decision
 step-open C met back k l u v e x c =
     at-mark (vertex-link C x) Torn (Keeps (Trial k l u v e))
-    (pick (eqb c edge-tail) (Keeps (Trial k l u v e))
-    (at-edge (edge-link C c) Torn (λ next tag.
-    pick (eqb tag marked) (Keeps (TrialOpen k l u v e x next))
-    (at-target (edge-target C c) Torn (λ y. cross C met back y (TrialOpen k l u v e x next))))))
+    (pick (eqb c edge-tail) (Keeps (Trial k l u v e)) (pass-edge C met back k l u v e x c))
 
 -- (d) The front x of the queue is taken: the source itself, a marked vertex, or one to open.
 unfoldable pub take-front : Catalogue → ℤ → ℤ → ℕ → ℕ → ℕ → ℕ → Decision
@@ -46,10 +51,19 @@ take-front C k l u v e x =
     (at-mark (vertex-link C x) Torn (Takes (Trial k l u v e))
     (at-edge (first-link C x) Torn (λ c tag. Takes (TrialOpen k l u v e x c))))
 
--- (c), (d) No vertex is open.
-unfoldable pub step-shut : Catalogue → List ℕ → ℕ → ℕ → ℤ → ℤ → ℕ → ℕ → ℕ → Decision
-step-shut C queue front back k l u v e = pick (eqb front back) (end-trial C e added 1) (take-front C k l u v e (getD queue front 0))
+-- (c), (d) No vertex is open; x is what stands at the front of the queue.
+unfoldable pub step-shut : Catalogue → ℕ → ℕ → ℕ → ℤ → ℤ → ℕ → ℕ → ℕ → Decision
+step-shut C x front back k l u v e = pick (eqb front back) (end-trial C e added 1) (take-front C k l u v e x)
 
--- (a) u or v marked; before it the ends of the queue.
-unfoldable pub step-trial : Catalogue → ℕ → ℕ → ℕ → ℕ → ℕ → Decision → Decision
-step-trial C front back u v e rest = pick (ends-fit front back) (at-both (see-both C u v) Torn (end-trial C e marked 3) rest) Torn
+-- (a) The ends of the queue, then the marks of u and v.
+unfoldable pub see-trial : Catalogue → ℕ → ℕ → ℕ → ℕ → BothSeen
+see-trial C front back u v = pick (ends-fit front back) (see-both C u v) both.Torn
+
+-- (a) u or v is marked, and the own edge is withdrawn; else the rest.
+unfoldable pub trial-shut : Catalogue → ℕ → ℕ → ℕ → ℤ → ℤ → ℕ → ℕ → ℕ → Decision
+trial-shut C x front back k l u v e =
+    at-both (see-trial C front back u v) Torn (end-trial C e marked 3) (step-shut C x front back k l u v e)
+
+unfoldable pub trial-open : Catalogue → List ℕ → ℕ → ℕ → ℤ → ℤ → ℕ → ℕ → ℕ → ℕ → ℕ → Decision
+trial-open C met front back k l u v e x c =
+    at-both (see-trial C front back u v) Torn (end-trial C e marked 3) (step-open C met back k l u v e x c)

@@ -1,0 +1,4 @@
+-- Laws of the definitions that the proofs of several crates use.
+pub mod Rules
+pub mod Picks
+pub mod Ways

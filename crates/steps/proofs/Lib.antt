@@ -1,0 +1,5 @@
+-- Laws that the proofs of this crate share.
+pub mod Args
+pub mod Decisions
+pub mod Pools
+pub mod Seen

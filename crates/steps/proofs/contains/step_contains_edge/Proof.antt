@@ -1,0 +1,56 @@
+-- Each way out is the case of the definition that its tests and reads choose. Assumes nothing.
+use Rattle.steps.proofs.Seen.{steps}
+use Rattle.catalogue.specs.Steps.Contains.{step-contains-edge}
+use borrow.Author.Needs.{needs}
+use Rattle.steps.proofs.contains.step_contains_edge.Statement.{statement}
+use Rattle.steps.proofs.contains.step_contains_edge.Tie as tie
+
+edge-key-requires : tie.Need-edge-key-requires
+edge-key-requires c κs = search needs
+
+edge-link-requires : tie.Need-edge-link-requires
+edge-link-requires c κs = search needs
+
+enum-known-next : tie.Need-enum-known-next
+enum-known-next c = search needs
+
+enum-told : tie.Need-enum-told
+enum-told c = search needs
+
+returns : tie.Need-returns
+unfolding step-contains-edge
+returns c = search steps
+
+returns-2 : tie.Need-returns-2
+unfolding step-contains-edge
+returns-2 c = search steps
+
+settle-contains-edge-requires : tie.Need-settle-contains-edge-requires
+settle-contains-edge-requires c κs = search needs
+
+returns-3 : tie.Need-returns-3
+unfolding step-contains-edge
+returns-3 c = search steps
+
+returns-4 : tie.Need-returns-4
+unfolding step-contains-edge
+returns-4 c = search steps
+
+returns-5 : tie.Need-returns-5
+unfolding step-contains-edge
+returns-5 c = search steps
+
+pub step-contains-edge-spec : {M : Type 1} → statement M
+step-contains-edge-spec =
+    tie.close
+    (tie.spec
+    edge-key-requires
+    edge-link-requires
+    enum-known-next
+    enum-told
+    returns
+    returns-2
+    settle-contains-edge-requires
+    returns-3
+    returns-4
+    returns-5)

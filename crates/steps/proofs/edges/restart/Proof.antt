@@ -1,0 +1,31 @@
+-- Each way out is the case of the definition that its tests and reads choose. Assumes nothing.
+use Rattle.steps.proofs.Seen.{steps}
+use Rattle.catalogue.specs.Steps.Edges.{restart}
+use borrow.Author.Needs.{needs}
+use Rattle.steps.proofs.edges.restart.Statement.{statement}
+use Rattle.steps.proofs.edges.restart.Tie as tie
+
+first-link-requires : tie.Need-first-link-requires
+first-link-requires c κs = search needs
+
+enum-known-next : tie.Need-enum-known-next
+enum-known-next c = search needs
+
+enum-told : tie.Need-enum-told
+enum-told c = search needs
+
+returns : tie.Need-returns
+unfolding restart
+returns c = search steps
+
+edge-place-requires : tie.Need-edge-place-requires
+edge-place-requires c κs = search needs
+
+returns-2 : tie.Need-returns-2
+unfolding restart
+returns-2 c = search steps
+
+pub restart-spec : {M : Type 1} → statement M
+restart-spec =
+    tie.close
+    (tie.spec first-link-requires enum-known-next enum-told returns edge-place-requires returns-2)

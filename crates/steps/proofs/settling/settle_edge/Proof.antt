@@ -1,0 +1,29 @@
+-- Each way out is the case of the definition that its tests and reads choose. Assumes nothing.
+use Rattle.steps.proofs.Seen.{steps}
+use Rattle.catalogue.specs.Steps.Edges.{settle-edge}
+use borrow.Author.Needs.{needs}
+use Rattle.steps.proofs.settling.settle_edge.Statement.{statement}
+use Rattle.steps.proofs.settling.settle_edge.Tie as tie
+
+settle-add-edge-requires : tie.Need-settle-add-edge-requires
+settle-add-edge-requires c κs = search needs
+
+settle-remove-edge-requires : tie.Need-settle-remove-edge-requires
+settle-remove-edge-requires c κs = search needs
+
+returns : tie.Need-returns
+unfolding settle-edge
+returns c = search steps
+
+returns-2 : tie.Need-returns-2
+unfolding settle-edge
+returns-2 c = search steps
+
+returns-3 : tie.Need-returns-3
+unfolding settle-edge
+returns-3 c = search steps
+
+pub settle-edge-spec : {M : Type 1} → statement M
+settle-edge-spec =
+    tie.close
+    (tie.spec settle-add-edge-requires settle-remove-edge-requires returns returns-2 returns-3)

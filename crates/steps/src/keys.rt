@@ -1,0 +1,29 @@
+// The keys that no request may use.
+ghost use mathlib.Core.Path.{_≡_};
+ghost use Rattle.catalogue.specs.Numbers.{reserved};
+ghost use Rattle.catalogue.specs.Steps.Places.{key-refused};
+
+fn reserved(k: i32) -> bool
+    ensures { λ r. ⌜ r ≡ reserved k ⌝ }
+{
+    if k == -2147483648 {
+        return true;
+    }
+    if k == 2147483647 {
+        return true;
+    }
+    false
+}
+
+// A key that the request uses is reserved; codes 1 to 3 use one.
+pub fn key_refused(code: u32, k: i32, l: i32) -> bool
+    ensures { λ r. ⌜ r ≡ key-refused code k l ⌝ }
+{
+    if reserved(k) {
+        return true;
+    }
+    if code <= 3 {
+        return false;
+    }
+    reserved(l)
+}

@@ -1,0 +1,240 @@
+// The trial, by the cases (a) to (d). It reads what it keeps, and says what is met or taken.
+ghost use mathlib.Core.Path.{_≡_};
+ghost use Rattle.catalogue.specs.Lent.{Sized, catalogue-in};
+ghost use Rattle.catalogue.specs.Steps.Trial.{end-trial, cross, pass-edge, step-open, take-front, step-shut, see-trial, trial-shut, trial-open};
+use catalogue::links::EdgeLink;
+use catalogue::links::Target;
+use catalogue::links::VertexLink;
+use catalogue::steps::BothSeen;
+use catalogue::steps::Decision;
+use catalogue::workers::Place;
+use catalogue::writes::Write;
+use crate::both::see_both;
+use memory::reads::edge_link;
+use memory::reads::edge_target;
+use memory::reads::first_link;
+use memory::reads::vertex_link;
+use workers::met::met_has;
+
+// The own edge gets its last tag, and the trial ends with a reply.
+fn end_trial(keys: &[i32], words: &[u32], e: u16, tag: u8, reply: u8) -> Decision
+    requires { ⌜ Sized (now keys) (now words) ⌝ }
+    ensures { λ r. ⌜ r ≡ end-trial (catalogue-in (now (keys .entry)) (now (words .entry))) e tag reply ⌝ }
+{
+    let EdgeLink::At { next, tag: _ } = edge_link(words, e) else {
+        return Decision::Torn;
+    };
+    Decision::Reply {
+        number: reply,
+        write: Write::EdgeLink { edge: e, next, tag },
+    }
+}
+
+// (b) An edge that is not MARKED leads to y.
+fn cross(keys: &[i32], words: &[u32], met: [u64; 4], back: u16, y: u8, next: Place) -> Decision
+    requires { ⌜ Sized (now keys) (now words) ⌝ }
+    ensures { λ r. ⌜ r ≡ cross (catalogue-in (now (keys .entry)) (now (words .entry))) met back y next ⌝ }
+{
+    let VertexLink::At { next: _, tag } = vertex_link(words, y) else {
+        return Decision::Torn;
+    };
+    if tag == 1 {
+        return Decision::Keeps { next };
+    }
+    if met_has(met, y) {
+        return Decision::Keeps { next };
+    }
+    if 256 <= back {
+        return Decision::Torn;
+    }
+    Decision::Meets { next, met: y }
+}
+
+// (b) The edge c of the open vertex x.
+fn pass_edge(
+    keys: &[i32],
+    words: &[u32],
+    met: [u64; 4],
+    back: u16,
+    k: i32,
+    l: i32,
+    u: u8,
+    v: u8,
+    e: u16,
+    x: u8,
+    c: u16,
+) -> Decision
+    requires { ⌜ Sized (now keys) (now words) ⌝ }
+    ensures { λ r. ⌜ r ≡ pass-edge (catalogue-in (now (keys .entry)) (now (words .entry))) met back k l u v e x c ⌝ }
+{
+    let EdgeLink::At { next, tag } = edge_link(words, c) else {
+        return Decision::Torn;
+    };
+    let onward = Place::TrialOpen {
+        k,
+        l,
+        u,
+        v,
+        e,
+        x,
+        c: next,
+    };
+    if tag == 1 {
+        return Decision::Keeps { next: onward };
+    }
+    let Target::At { vertex } = edge_target(words, c) else {
+        return Decision::Torn;
+    };
+    cross(keys, words, met, back, vertex, onward)
+}
+
+// (b) The vertex x is open at its edge c.
+fn step_open(
+    keys: &[i32],
+    words: &[u32],
+    met: [u64; 4],
+    back: u16,
+    k: i32,
+    l: i32,
+    u: u8,
+    v: u8,
+    e: u16,
+    x: u8,
+    c: u16,
+) -> Decision
+    requires { ⌜ Sized (now keys) (now words) ⌝ }
+    ensures { λ r. ⌜ r ≡ step-open (catalogue-in (now (keys .entry)) (now (words .entry))) met back k l u v e x c ⌝ }
+{
+    let VertexLink::At { next: _, tag } = vertex_link(words, x) else {
+        return Decision::Torn;
+    };
+    if tag == 1 {
+        return Decision::Keeps {
+            next: Place::Trial { k, l, u, v, e },
+        };
+    }
+    if c == 0 {
+        return Decision::Keeps {
+            next: Place::Trial { k, l, u, v, e },
+        };
+    }
+    pass_edge(keys, words, met, back, k, l, u, v, e, x, c)
+}
+
+// (d) The front x of the queue is taken.
+fn take_front(keys: &[i32], words: &[u32], k: i32, l: i32, u: u8, v: u8, e: u16, x: u8) -> Decision
+    requires { ⌜ Sized (now keys) (now words) ⌝ }
+    ensures { λ r. ⌜ r ≡ take-front (catalogue-in (now (keys .entry)) (now (words .entry))) k l u v e x ⌝ }
+{
+    if x == u {
+        return end_trial(keys, words, e, 1, 6);
+    }
+    let VertexLink::At { next: _, tag } = vertex_link(words, x) else {
+        return Decision::Torn;
+    };
+    if tag == 1 {
+        return Decision::Takes {
+            next: Place::Trial { k, l, u, v, e },
+        };
+    }
+    let EdgeLink::At { next, tag: _ } = first_link(words, x) else {
+        return Decision::Torn;
+    };
+    Decision::Takes {
+        next: Place::TrialOpen {
+            k,
+            l,
+            u,
+            v,
+            e,
+            x,
+            c: next,
+        },
+    }
+}
+
+// (c), (d) No vertex is open.
+fn step_shut(
+    keys: &[i32],
+    words: &[u32],
+    x: u8,
+    front: u16,
+    back: u16,
+    k: i32,
+    l: i32,
+    u: u8,
+    v: u8,
+    e: u16,
+) -> Decision
+    requires { ⌜ Sized (now keys) (now words) ⌝ }
+    ensures { λ r. ⌜ r ≡ step-shut (catalogue-in (now (keys .entry)) (now (words .entry))) x front back k l u v e ⌝ }
+{
+    if front == back {
+        return end_trial(keys, words, e, 3, 1);
+    }
+    take_front(keys, words, k, l, u, v, e, x)
+}
+
+// (a) The ends of the queue in order, then the marks of u and v.
+fn see_trial(keys: &[i32], words: &[u32], front: u16, back: u16, u: u8, v: u8) -> BothSeen
+    requires { ⌜ Sized (now keys) (now words) ⌝ }
+    ensures { λ r. ⌜ r ≡ see-trial (catalogue-in (now (keys .entry)) (now (words .entry))) front back u v ⌝ }
+{
+    if front <= back {
+        if back <= 256 {
+            return see_both(keys, words, u, v);
+        }
+        return BothSeen::Torn;
+    }
+    BothSeen::Torn
+}
+
+// One step of a trial with no vertex open.
+pub fn step_trial_shut(
+    keys: &[i32],
+    words: &[u32],
+    x: u8,
+    front: u16,
+    back: u16,
+    k: i32,
+    l: i32,
+    u: u8,
+    v: u8,
+    e: u16,
+) -> Decision
+    requires { ⌜ Sized (now keys) (now words) ⌝ }
+    ensures { λ r. ⌜ r ≡ trial-shut (catalogue-in (now (keys .entry)) (now (words .entry))) x front back k l u v e ⌝ }
+{
+    let both = see_trial(keys, words, front, back, u, v);
+    match both {
+        BothSeen::Torn => Decision::Torn,
+        BothSeen::Dead => end_trial(keys, words, e, 1, 3),
+        BothSeen::Standing => step_shut(keys, words, x, front, back, k, l, u, v, e),
+    }
+}
+
+// One step of a trial with the vertex x open.
+pub fn step_trial_open(
+    keys: &[i32],
+    words: &[u32],
+    met: [u64; 4],
+    front: u16,
+    back: u16,
+    k: i32,
+    l: i32,
+    u: u8,
+    v: u8,
+    e: u16,
+    x: u8,
+    c: u16,
+) -> Decision
+    requires { ⌜ Sized (now keys) (now words) ⌝ }
+    ensures { λ r. ⌜ r ≡ trial-open (catalogue-in (now (keys .entry)) (now (words .entry))) met front back k l u v e x c ⌝ }
+{
+    let both = see_trial(keys, words, front, back, u, v);
+    match both {
+        BothSeen::Torn => Decision::Torn,
+        BothSeen::Dead => end_trial(keys, words, e, 1, 3),
+        BothSeen::Standing => step_open(keys, words, met, back, k, l, u, v, e, x, c),
+    }
+}
