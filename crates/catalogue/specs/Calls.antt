@@ -33,19 +33,23 @@ unfoldable pub count-fits : ℕ → Bool
 count-fits count = pick (leb 1 count) (leb count most-workers) false
 
 -- 21: the count, then the worker's number.
-unfoldable pub worker-fits : Table → ℕ → Bool
-worker-fits t w = pick (count-fits (t .count)) (ltb w (t .count)) false
+unfoldable pub worker-fits : ℕ → ℕ → Bool
+worker-fits count w = pick (count-fits count) (ltb w count) false
 
--- Taking up: 21, 22, 24, 25, then 26 if the head's link is torn; else the worker stands at the first place of the request.
-unfoldable pub take-up : Catalogue → Table → ℕ → ℕ → ℤ → ℤ → After
-take-up C t w code k l =
-    pick (worker-fits t w)
-    (pick (busy t w) (refuse C t refusal.Busy)
-    (pick (code-known code)
+-- Taking up by an idle worker: 24, 25, then 26 if the head's link is torn; else the worker stands at the first place of the request.
+unfoldable pub start-up : Catalogue → Table → ℕ → ℕ → ℤ → ℤ → After
+start-up C t w code k l =
+    pick (code-known code)
     (pick (key-refused code k l) (refuse C t refusal.Key)
     (at-vertex (vertex-link C head) (refuse C t refusal.Torn) (λ first tag.
     record { catalogue = C; table = put t w (bare (first-place code k l first)); answer = Going 0 })))
-    (refuse C t refusal.Code)))
+    (refuse C t refusal.Code)
+
+-- Taking up: 21, 22, and the rest.
+unfoldable pub take-up : Catalogue → Table → ℕ → ℕ → ℤ → ℤ → After
+take-up C t w code k l =
+    pick (worker-fits (t .count) w)
+    (pick (busy t w) (refuse C t refusal.Busy) (start-up C t w code k l))
     (refuse C t refusal.Worker)
 
 -- A step that has decided: at most one write, the worker's record and the answer; a refusal changes nothing.
@@ -57,6 +61,6 @@ perform C t n w d =
 -- A step: 21, 23, then 26, which the decision brings with it.
 unfoldable pub step : Catalogue → Table → ℕ → After
 step C t w =
-    pick (worker-fits t w)
+    pick (worker-fits (t .count) w)
     (pick (busy t w) (perform C t w (worker-at t w) (decide C (worker-at t w))) (refuse C t refusal.Idle))
     (refuse C t refusal.Worker)

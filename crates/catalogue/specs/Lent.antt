@@ -16,6 +16,7 @@ use Rattle.catalogue.specs.Listing.{After-listing, list-into, written}
 use Rattle.catalogue.specs.Script.{Script, Read, bad, good, read-script}
 use Rattle.catalogue.specs.Run.{run, run-text}
 use Rattle.catalogue.specs.declared.workers.Table.{Table}
+use Rattle.catalogue.specs.declared.answers.Refusal.{Refusal}
 use Rattle.catalogue.specs.declared.answers.Refusal.the-variants as refusal
 use Rattle.catalogue.specs.declared.answers.Answer.the-variants as answer
 use Rattle.catalogue.specs.declared.answers.Outcome.{Outcome}
@@ -77,8 +78,12 @@ view m = record {
   elink = elinks (m .words);
 }
 
+-- two lent slices as one memory, and the catalogue in them
+abbrev pub memory-of : List ℤ → List ℕ → Memory
+memory-of keys words = record { keys = keys; words = words }
+
 abbrev pub catalogue-in : List ℤ → List ℕ → Catalogue
-catalogue-in keys words = view (record { keys = keys; words = words })
+catalogue-in keys words = view (memory-of keys words)
 
 -- the memory that holds a catalogue
 unfoldable pub lay : Catalogue → Memory
@@ -111,18 +116,24 @@ refuse-made m = record { memory = m; answer = made.Refused refusal.Room }
 unfoldable pub lent-fresh : Memory → Lent-made
 lent-fresh m = pick (sized m) (record { memory = lay fresh; answer = made.Done }) (refuse-made m)
 
+abbrev pub outcome-of : After → Outcome
+outcome-of a = record { table = a .table; answer = a .answer }
+
 -- Taking up and a step: the memory and the outcome.
 pub record Lent-call : Type 0 where
   pub memory : Memory
   pub outcome : Outcome
 
 abbrev pub after-call : After → Lent-call
-after-call a = record { memory = lay (a .catalogue); outcome = record { table = a .table; answer = a .answer } }
+after-call a = record { memory = lay (a .catalogue); outcome = outcome-of a }
+
+abbrev pub refused : Table → Refusal → Outcome
+refused t r = record { table = t; answer = answer.Refused r }
 
 abbrev pub lent-call : Memory → Table → (Catalogue → After) → Lent-call
 lent-call m t call =
     pick (sized m) (after-call (call (view m)))
-    (record { memory = m; outcome = record { table = t; answer = answer.Refused refusal.Room } })
+    (record { memory = m; outcome = refused t refusal.Room })
 
 unfoldable pub lent-take-up : Memory → Table → ℕ → ℕ → ℤ → ℤ → Lent-call
 lent-take-up m t w code k l = lent-call m t (λ C. take-up C t w code k l)

@@ -1,5 +1,6 @@
 -- Laws that the proofs of this crate share.
 pub mod Args
 pub mod Decisions
+pub mod Made
 pub mod Pools
 pub mod Seen

@@ -34,12 +34,12 @@ pub edge-in-pool : (words : ℕ → ℕ) (n next tag : ℕ) (r : EdgeLink) → r
 edge-in-pool words n next tag r e q = subst (Linked n) (sym e ∙ q) (linked words n)
 
 -- what a pool hands out lies from its lowest number on, and below the sum of that and the limit
-abbrev Handed : ℕ → ℕ → Room → Type 0
+abbrev pub Handed : ℕ → ℕ → Room → Type 0
 Handed limit lowest (room.Next n) = (lowest ≤ n) × (n < lowest + limit)
 Handed limit lowest room.Full = Unit {0}
 Handed limit lowest room.Torn = Unit {0}
 
-handed : (limit lowest count : ℕ) → Handed limit lowest (room limit lowest count)
+pub handed : (limit lowest count : ℕ) → Handed limit lowest (room limit lowest count)
 unfolding room
 handed limit lowest count =
     pick-both (Handed limit lowest) (ltb count limit) _ _ (λ e. omega (arith, ltb-true count limit e))

@@ -8,7 +8,7 @@ use lib.Dec.{eqb}
 use Rattle.catalogue.specs.Tests.{pick, keep, eqZ, upd, every, member}
 use Rattle.catalogue.specs.Answers.{Told}
 use Rattle.catalogue.specs.Runs.{Choice, takes, steps, start, telling}
-use Rattle.catalogue.specs.Calls.{count-fits, worker-fits, take-up, step}
+use Rattle.catalogue.specs.Calls.{count-fits, worker-fits, start-up, take-up, step}
 use Rattle.catalogue.specs.Catalogue.{vertex-key-in, vertex-link-in, first-link-in, edge-key-in, edge-link-in, edge-target-in}
 use Rattle.catalogue.specs.Listing.{result-text}
 use Rattle.catalogue.specs.Live.{walk, gather}
@@ -61,7 +61,7 @@ turn-about zero = []
 turn-about (suc n) = steps 0 ∷ steps 1 ∷ turn-about n
 
 unfoldable pub found : Example → List ℕ
-unfolding count-fits worker-fits take-up step vertex-key-in vertex-link-in first-link-in edge-key-in edge-link-in edge-target-in drill result-text walk gather reserved room shares play run run-text telling next-line split value all-of sum unsnoc read-requests read-lines read-script sound see-both settle-contains-edge step-contains-edge decide-at see-key see-edge see-behind look-at-edge settle-add-edge settle-remove-edge settle-edge restart step-edge look-for step-contains not-found found-u found-v step-find-u step-find-v key-refused vertex-place find-u-place find-v-place edge-place edges-place first-place ends-fit end-trial cross pass-edge step-open take-front step-shut see-trial trial-shut trial-open see-vertex look-at-vertex settle-add-vertex settle-remove-vertex settle-vertex start-again step-vertex position first-of next-swept next-swept-edge swept any-busy sweep-into eqZ upd keep every member digits number spaced lines has with-met count met-count commit bytes numbers stepped turn-about
+unfolding count-fits worker-fits start-up take-up step vertex-key-in vertex-link-in first-link-in edge-key-in edge-link-in edge-target-in drill result-text walk gather reserved room shares play run run-text telling next-line split value all-of sum unsnoc read-requests read-lines read-script sound see-both settle-contains-edge step-contains-edge decide-at see-key see-edge see-behind look-at-edge settle-add-edge settle-remove-edge settle-edge restart step-edge look-for step-contains not-found found-u found-v step-find-u step-find-v key-refused vertex-place find-u-place find-v-place edge-place edges-place first-place ends-fit end-trial cross pass-edge step-open take-front step-shut see-trial trial-shut trial-open see-vertex look-at-vertex settle-add-vertex settle-remove-vertex settle-vertex start-again step-vertex position first-of next-swept next-swept-edge swept any-busy sweep-into eqZ upd keep every member digits number spaced lines has with-met count met-count commit bytes numbers stepped turn-about
 found (prints script result) = drill (bytes script)
 found (answers workers choices told) = numbers (telling (start workers) choices)
 found (meets workers choices told) = map (λ t. t .met) (telling (start workers) choices)

@@ -1,0 +1,73 @@
+// The checks that the calls share, and a refusal.
+ghost use mathlib.Core.Path.{_≡_};
+ghost use Rattle.catalogue.specs.Calls.{count-fits, worker-fits};
+ghost use Rattle.catalogue.specs.Lent.{memory-of, sized, refused};
+ghost use Rattle.catalogue.specs.Steps.Places.{code-known};
+use catalogue::answers::Answer;
+use catalogue::answers::Outcome;
+use catalogue::answers::Refusal;
+use catalogue::workers::Table;
+use memory::KEYS_SIZE;
+use memory::WORDS_SIZE;
+
+// A refusal leaves the table as it was.
+pub fn refuse(table: Table, refusal: Refusal) -> Outcome
+    ensures { λ r. ⌜ r ≡ refused table refusal ⌝ }
+{
+    Outcome {
+        table,
+        answer: Answer::Refused { refusal },
+    }
+}
+
+// 20: both slices are of the stated sizes.
+pub fn sized(keys: &[i32], words: &[u32]) -> bool
+    ensures { λ r. ⌜ r ≡ sized (memory-of (now (keys .entry)) (now (words .entry))) ⌝ }
+{
+    if keys.len() == KEYS_SIZE {
+        if words.len() == WORDS_SIZE {
+            return true;
+        }
+        return false;
+    }
+    false
+}
+
+// 21: the count is 1 to 8.
+pub fn count_fits(count: u32) -> bool
+    ensures { λ r. ⌜ r ≡ count-fits count ⌝ }
+{
+    if 1 <= count {
+        if count <= 8 {
+            return true;
+        }
+        return false;
+    }
+    false
+}
+
+// 21: the count first, then the worker's number.
+pub fn worker_fits(count: u32, worker: u32) -> bool
+    ensures { λ r. ⌜ r ≡ worker-fits count worker ⌝ }
+{
+    if count_fits(count) {
+        if worker < count {
+            return true;
+        }
+        return false;
+    }
+    false
+}
+
+// 24: the six codes.
+pub fn code_known(code: u32) -> bool
+    ensures { λ r. ⌜ r ≡ code-known code ⌝ }
+{
+    if 1 <= code {
+        if code <= 6 {
+            return true;
+        }
+        return false;
+    }
+    false
+}

@@ -1,0 +1,5 @@
+// The calls of a host on workers: taking up a request, and one step. Each does its own checking, in document 01's order of refusals.
+pub mod checks;
+pub mod record;
+pub mod step;
+pub mod take_up;

@@ -1,0 +1,40 @@
+// One step of one worker of a table.
+ghost use mathlib.Core.Path.{_≡_};
+ghost use Rattle.catalogue.specs.Lent.{memory-of, lent-step};
+use catalogue::answers::Outcome;
+use catalogue::answers::Refusal;
+use catalogue::workers::Table;
+use crate::checks::refuse;
+use crate::checks::sized;
+use crate::checks::worker_fits;
+use crate::record::step_record;
+use workers::requests::busy_at;
+use workers::table::put;
+use workers::table::worker_at;
+
+pub fn step(keys: &mut [i32], words: &mut [u32], table: Table, worker: u32) -> Outcome
+    ensures { λ r. ⌜ r ≡ lent-step (memory-of (now (keys .entry)) (now (words .entry))) table worker .outcome ⌝ }
+    ensures { λ r. ⌜ now (keys .exit) ≡ lent-step (memory-of (now (keys .entry)) (now (words .entry))) table worker .memory .keys ⌝ }
+    ensures { λ r. ⌜ now (words .exit) ≡ lent-step (memory-of (now (keys .entry)) (now (words .entry))) table worker .memory .words ⌝ }
+{
+    if sized(keys, words) {
+        if worker_fits(table.count, worker) {
+            let at = worker as usize;
+            let w = worker_at(table, at);
+            let place = w.place;
+            if busy_at(place) {
+                let s = step_record(keys, words, w);
+                let moved = s.worker;
+                let after = put(table, at, moved);
+                let answer = s.answer;
+                return Outcome {
+                    table: after,
+                    answer,
+                };
+            }
+            return refuse(table, Refusal::Idle);
+        }
+        return refuse(table, Refusal::Worker);
+    }
+    refuse(table, Refusal::Room)
+}

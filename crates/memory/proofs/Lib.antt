@@ -1,0 +1,6 @@
+-- Laws of the lent memory, for the proofs of this crate and of those above it.
+pub mod Tables
+pub mod Laid
+pub mod Stores
+pub mod Held
+pub mod Cleared

@@ -1,0 +1,25 @@
+-- The last link is turned in the catalogue that has the edge already. Assumes nothing.
+use Rattle.memory.proofs.Held.{writes}
+use borrow.Author.Needs.{needs}
+use Rattle.memory.proofs.writes.new_edge.Statement.{statement}
+use Rattle.memory.proofs.writes.new_edge.Tie as tie
+
+fill-edge-requires : tie.Need-fill-edge-requires
+fill-edge-requires c κs = search needs
+
+put-edge-link-requires : tie.Need-put-edge-link-requires
+put-edge-link-requires c κs = search needs
+
+same-length : tie.Need-same-length
+same-length c = search needs
+
+same-length-2 : tie.Need-same-length-2
+same-length-2 c = search needs
+
+returns : tie.Need-returns
+returns c = search writes
+
+pub new-edge-spec : {M : Type 1} → statement M
+new-edge-spec =
+    tie.close
+    (tie.spec fill-edge-requires put-edge-link-requires same-length same-length-2 returns)
