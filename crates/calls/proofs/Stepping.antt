@@ -21,7 +21,8 @@ use Rattle.catalogue.specs.declared.writes.Write.{Write}
 use Rattle.catalogue.specs.declared.steps.Decision.{Decision}
 use Rattle.catalogue.specs.declared.steps.Decision.the-variants.{Torn, Code, Going, Begins, Keeps, Meets, Takes, Reply}
 use Rattle.memory.specs.Memories.{Hold, Writable}
-use Rattle.memory.proofs.Laid.{view-keys, view-words}
+use Rattle.calls.specs.Promised.{Steps}
+use Rattle.memory.proofs.Laid.{view-held}
 use Rattle.calls.proofs.Outcomes.{sized-is, below-flag, sized-flag}
 use Rattle.steps.specs.Follows.{Follows}
 use Rattle.steps.proofs.Made.{decide-follows}
@@ -52,11 +53,6 @@ module _ (C : Catalogue) (w : Worker) (d : Decision) where
 
 -- ---- a worker of a table
 
--- the three things that a step leaves
-abbrev pub Left : Memory → Table → ℕ → Outcome → List ℤ → List ℕ → Type 0
-Left m t n x keys words =
-    (x ≡ lent-step m t n .outcome) × ((keys ≡ lent-step m t n .memory .keys) × (words ≡ lent-step m t n .memory .words))
-
 put-back : (t : Table) (n : ℕ) → put t n (worker-at t n) ≡ t
 put-back t n = ap (λ (ws : List Worker). record { count = t .count; workers = ws }) (set-getD (t .workers) n blank)
 
@@ -78,25 +74,25 @@ module _ (keys : List ℤ) (words : List ℕ) (t : Table) (n : ℕ) (x : Outcome
   m = memory-of keys words
 
   -- memory of a wrong size
-  pub left-unsized : sized m ≡ false → x ≡ refused t refusal.Room → Left m t n x keys words
+  pub left-unsized : sized m ≡ false → x ≡ refused t refusal.Room → Steps m t n x keys words
   unfolding lent-step
   left-unsized h e = rw h (e, (refl, refl))
 
   module _ (h : sized m ≡ true) where
-    left : (a : After) → step (view m) t n ≡ a → x ≡ outcome-of a → (keys′ : List ℤ) (words′ : List ℕ) → Hold keys′ words′ (a .catalogue) → Left m t n x keys′ words′
+    left : (a : After) → step (view m) t n ≡ a → x ≡ outcome-of a → (keys′ : List ℤ) (words′ : List ℕ) → Hold keys′ words′ (a .catalogue) → Steps m t n x keys′ words′
     unfolding lent-step
     left a e f keys′ words′ g = rw (h, e) (f, g)
 
     -- memory that stays is that of its view
     stays : Hold keys words (view m)
-    stays = let s = sized-is m h in (view-keys keys words (s .keyed), view-words keys words (s .worded))
+    stays = let s = sized-is m h in view-held keys words (s .keyed) (s .worded)
 
-    pub left-worker : worker-fits (t .count) n ≡ false → x ≡ refused t refusal.Worker → Left m t n x keys words
+    pub left-worker : worker-fits (t .count) n ≡ false → x ≡ refused t refusal.Worker → Steps m t n x keys words
     unfolding step
     left-worker f e = left (refuse (view m) t refusal.Worker) (rw f) e keys words stays
 
     module _ (f : worker-fits (t .count) n ≡ true) where
-      pub left-idle : busy-at (worker-at t n .place) ≡ false → x ≡ refused t refusal.Idle → Left m t n x keys words
+      pub left-idle : busy-at (worker-at t n .place) ≡ false → x ≡ refused t refusal.Idle → Steps m t n x keys words
       unfolding step
       left-idle g e = left (refuse (view m) t refusal.Idle) (rw (f, g)) e keys words stays
 
@@ -105,7 +101,7 @@ module _ (keys : List ℤ) (words : List ℕ) (t : Table) (n : ℕ) (x : Outcome
           busy-at (worker-at t n .place) ≡ true →
           (w : Worker) (s : Stepped) (after : Table) (keys′ : List ℤ) (words′ : List ℕ) →
           w ≡ worker-at t n → s ≡ stepped w (decide (view m) w) → after ≡ put t n (s .worker) → x ≡ record { table = after; answer = s .answer } →
-          Hold keys′ words′ (commit (view m) (write-of (decide (view m) w))) → Left m t n x keys′ words′
+          Hold keys′ words′ (commit (view m) (write-of (decide (view m) w))) → Steps m t n x keys′ words′
       unfolding step
       left-stepped g w s after keys′ words′ a b c e d =
           let u = worker-at t n in

@@ -1,21 +1,19 @@
 // One step of one worker of a table.
-ghost use mathlib.Core.Path.{_≡_};
-ghost use Rattle.catalogue.specs.Lent.{memory-of, lent-step};
-use catalogue::answers::Outcome;
-use catalogue::answers::Refusal;
-use catalogue::workers::Table;
+ghost use Rattle.catalogue.specs.Lent.{memory-of};
+ghost use Rattle.calls.specs.Promised.{Steps};
 use crate::checks::refuse;
 use crate::checks::sized;
 use crate::checks::worker_fits;
 use crate::record::step_record;
+use catalogue::answers::Outcome;
+use catalogue::answers::Refusal;
+use catalogue::workers::Table;
 use workers::requests::busy_at;
 use workers::table::put;
 use workers::table::worker_at;
 
 pub fn step(keys: &mut [i32], words: &mut [u32], table: Table, worker: u32) -> Outcome
-    ensures { λ r. ⌜ r ≡ lent-step (memory-of (now (keys .entry)) (now (words .entry))) table worker .outcome ⌝ }
-    ensures { λ r. ⌜ now (keys .exit) ≡ lent-step (memory-of (now (keys .entry)) (now (words .entry))) table worker .memory .keys ⌝ }
-    ensures { λ r. ⌜ now (words .exit) ≡ lent-step (memory-of (now (keys .entry)) (now (words .entry))) table worker .memory .words ⌝ }
+    ensures { λ r. ⌜ Steps (memory-of (now (keys .entry)) (now (words .entry))) table worker r (now (keys .exit)) (now (words .exit)) ⌝ }
 {
     if sized(keys, words) {
         if worker_fits(table.count, worker) {

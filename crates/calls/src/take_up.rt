@@ -2,16 +2,17 @@
 ghost use mathlib.Core.Path.{_≡_};
 ghost use Prim.Native.Nat.{_<_};
 ghost use Rattle.catalogue.specs.Calls.{start-up};
-ghost use Rattle.catalogue.specs.Lent.{Sized, memory-of, catalogue-in, outcome-of, lent-take-up};
+ghost use Rattle.catalogue.specs.Lent.{Sized, memory-of, catalogue-in, outcome-of};
+ghost use Rattle.calls.specs.Promised.{Takes-up};
+use crate::checks::code_known;
+use crate::checks::refuse;
+use crate::checks::sized;
+use crate::checks::worker_fits;
 use catalogue::answers::Answer;
 use catalogue::answers::Outcome;
 use catalogue::answers::Refusal;
 use catalogue::links::VertexLink;
 use catalogue::workers::Table;
-use crate::checks::code_known;
-use crate::checks::refuse;
-use crate::checks::sized;
-use crate::checks::worker_fits;
 use memory::reads::vertex_link;
 use steps::keys::key_refused;
 use steps::places::first_place;
@@ -62,7 +63,7 @@ pub fn take_up(
     k: i32,
     l: i32,
 ) -> Outcome
-    ensures { λ r. ⌜ r ≡ lent-take-up (memory-of (now (keys .entry)) (now (words .entry))) table worker code k l .outcome ⌝ }
+    ensures { λ r. ⌜ Takes-up (memory-of (now (keys .entry)) (now (words .entry))) table worker code k l r ⌝ }
 {
     if sized(keys, words) {
         if worker_fits(table.count, worker) {

@@ -36,9 +36,16 @@ pub enum EdgeSeen {
     Dead,
     Again,
     // p's tag, which is kept, and c's next
-    Unlinks { kept: u8, next: u16 },
-    Marks { next: u16 },
-    Onward { next: u16 },
+    Unlinks {
+        kept: u8,
+        next: u16,
+    },
+    Marks {
+        next: u16,
+    },
+    Onward {
+        next: u16,
+    },
     // p's tag, c's next and tag, and whether c's key is equal
     Settles {
         kept: u8,

@@ -1,17 +1,19 @@
 -- What stands in laid memory at each place is the field of the catalogue at its number, and a list that agrees with all fields is that memory. Assumes nothing.
 use Prim.Native.Nat.{ℕ, zero, suc, _+_, _-_, _<_, _≤_}
-use mathlib.Core.Bool.{Bool, true, false}
-use mathlib.Core.List.{List, _++_}
-use mathlib.Core.Path.{_≡_, refl, sym, ap, subst, _∙_}
+use mathlib.Core.Bool.{Bool, true, false, false≢true}
+use mathlib.Core.List.{List}
+use mathlib.Core.Path.{_≡_, refl, sym, subst, _∙_}
 use native.Mathlib.Omega.{arith}
 use lib.IntN.{ℤ, pos}
 use lib.ListN.{length, getD, length-append}
 use lib.Seq.{ext-getD}
-use lib.Dec.{ltb}
+use lib.Dec.{ltb, eqb}
 use native.Mathlib.Nat.{add-sub-of-le}
-use borrow.Author.Tests.{ltb-true, ltb-false}
+use borrow.Author.Tests.{ltb-true, ltb-false, eqb-true}
+use Rattle.catalogue.specs.Tests.{pick}
 use Rattle.catalogue.specs.Catalogue.{Catalogue}
-use Rattle.catalogue.specs.Lent.{Memory, keys-size, words-size, vertex-count, edge-count, vkeys, ekeys, vlinks, firsts, targets, elinks, view, lay, sized, memory-of}
+use Rattle.catalogue.specs.Lent.{Memory, keys-size, words-size, vertex-count, edge-count, vkeys, ekeys, vlinks, firsts, targets, elinks, view, lay, sized, catalogue-in}
+use Rattle.memory.specs.Memories.{Hold}
 use Rattle.memory.proofs.Tables.{length-table, getD-table, getD-front, getD-behind}
 
 -- where the tables of the words begin, behind the two counts
@@ -101,6 +103,7 @@ module _ (C : Catalogue) where
     where
       P : ℕ → Type 0
       P i = getD words i 0 ≡ getD (lay C .words) i 0
+
       agree : (i : ℕ) → i < 2562 + 2048 → P i
       agree =
           below-both P 2562 2048
@@ -112,9 +115,19 @@ module _ (C : Catalogue) where
           (λ n h. elink n h ∙ sym (laid-elink C n h))
 
 -- Memory of the stated sizes is that of the catalogue which it holds.
-pub view-keys : (keys : List ℤ) (words : List ℕ) → length keys ≡ keys-size → keys ≡ lay (view (memory-of keys words)) .keys
-view-keys keys words size = laid-keys (view (memory-of keys words)) keys size (λ n h. refl) (λ n h. refl)
+pub view-held : (keys : List ℤ) (words : List ℕ) → length keys ≡ keys-size → length words ≡ words-size → Hold keys words (catalogue-in keys words)
+view-held keys words hk hw =
+    let C = catalogue-in keys words in (
+      laid-keys C keys hk (λ n h. refl) (λ n h. refl),
+      laid-words C words hw refl refl (λ n h. refl) (λ n h. refl) (λ n h. refl) (λ n h. refl),
+    )
 
-pub view-words : (keys : List ℤ) (words : List ℕ) → length words ≡ words-size → words ≡ lay (view (memory-of keys words)) .words
-view-words keys words size =
-    laid-words (view (memory-of keys words)) words size refl refl (λ n h. refl) (λ n h. refl) (λ n h. refl) (λ n h. refl)
+pub lay-view : (m : Memory) → sized m ≡ true → lay (view m) ≡ m
+unfolding sized
+lay-view m e = by (eqb (length (m .keys)) keys-size) refl e
+  where
+    by : (t : Bool) → eqb (length (m .keys)) keys-size ≡ t → pick t (eqb (length (m .words)) words-size) false ≡ true → lay (view m) ≡ m
+    by true k w =
+        let held = view-held (m .keys) (m .words) (eqb-true (length (m .keys)) keys-size k) (eqb-true (length (m .words)) words-size w) in
+        λ i. record { keys = sym (held .0) i; words = sym (held .1) i }
+    by false k w = absurd (false≢true w)

@@ -2,5 +2,6 @@
 pub mod Tables
 pub mod Laid
 pub mod Stores
-pub mod Held
-pub mod Cleared
+pub mod Commits
+pub mod Fills
+pub mod Zeros

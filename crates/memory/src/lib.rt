@@ -1,7 +1,9 @@
 // The lent catalogue: the only crate that knows where a field stands in the two lent slices.
+pub mod fresh;
 pub mod reads;
 pub mod writes;
 
 // How long the two lent slices are.
 pub const KEYS_SIZE: usize = 2304;
+
 pub const WORDS_SIZE: usize = 4610;

@@ -1,4 +1,4 @@
-// What a step decides to write is written here. A node that is handed out is filled, then counted, and linked at last, so that nobody reaches it half made.
+// One write for each field, and above them the one change that a step may make in a lent catalogue.
 ghost use mathlib.Core.Path.{_≡_};
 ghost use Prim.Native.Nat.{_+_, _<_, _≤_};
 ghost use lib.ListN.{length, set};
@@ -73,6 +73,7 @@ pub fn put_edge_count(words: &mut [u32], count: u16)
     words[1] = count as u32;
 }
 
+// A new vertex has no edges. It is filled before it is counted, and no link leads to it yet.
 fn fill_vertex(keys: &mut [i32], words: &mut [u32], n: u8, key: i32, next: u8)
     requires { ⌜ length (now keys) ≡ 2304 ⌝ }
     requires { ⌜ length (now words) ≡ 4610 ⌝ }
@@ -85,6 +86,7 @@ fn fill_vertex(keys: &mut [i32], words: &mut [u32], n: u8, key: i32, next: u8)
     put_vertex_count(words, n - 1);
 }
 
+// A new edge is on trial. It is filled before it is counted, and no link leads to it yet.
 fn fill_edge(keys: &mut [i32], words: &mut [u32], n: u16, key: i32, target: u8, next: u16)
     requires { ⌜ length (now keys) ≡ 2304 ⌝ }
     requires { ⌜ length (now words) ≡ 4610 ⌝ }
@@ -97,6 +99,7 @@ fn fill_edge(keys: &mut [i32], words: &mut [u32], n: u16, key: i32, target: u8, 
     put_edge_count(words, n);
 }
 
+// The link that leads to the new node is the last store, so that nobody reaches it half made.
 fn new_vertex(keys: &mut [i32], words: &mut [u32], n: u8, key: i32, next: u8, p: u8)
     requires { ⌜ length (now keys) ≡ 2304 ⌝ }
     requires { ⌜ length (now words) ≡ 4610 ⌝ }
@@ -118,7 +121,16 @@ fn new_first(keys: &mut [i32], words: &mut [u32], n: u16, key: i32, target: u8, 
 }
 
 // p may be the new node itself, so its tag is what the decision read, not what stands there now.
-fn new_edge(keys: &mut [i32], words: &mut [u32], n: u16, key: i32, target: u8, next: u16, p: u16, tag: u8)
+fn new_edge(
+    keys: &mut [i32],
+    words: &mut [u32],
+    n: u16,
+    key: i32,
+    target: u8,
+    next: u16,
+    p: u16,
+    tag: u8,
+)
     requires { ⌜ length (now keys) ≡ 2304 ⌝ }
     requires { ⌜ length (now words) ≡ 4610 ⌝ }
     requires { ⌜ (n < 2048) × (p < 2048) ⌝ }

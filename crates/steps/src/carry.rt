@@ -24,11 +24,18 @@ pub fn record_after(w: Worker, d: Decision) -> Worker
         Decision::Torn => w,
         Decision::Code => w,
         Decision::Going { next, write: _ } => bare(next),
-        Decision::Begins { next, write: _, met } => begun(next, met),
+        Decision::Begins {
+            next,
+            write: _,
+            met,
+        } => begun(next, met),
         Decision::Keeps { next } => kept(w, next),
         Decision::Meets { next, met } => queued(w, next, met),
         Decision::Takes { next } => taken(w, next),
-        Decision::Reply { number: _, write: _ } => idle(),
+        Decision::Reply {
+            number: _,
+            write: _,
+        } => idle(),
     }
 }
 
@@ -40,7 +47,11 @@ pub fn write_of(d: Decision) -> Write
         Decision::Torn => Write::Nothing,
         Decision::Code => Write::Nothing,
         Decision::Going { next: _, write } => write,
-        Decision::Begins { next: _, write, met: _ } => write,
+        Decision::Begins {
+            next: _,
+            write,
+            met: _,
+        } => write,
         Decision::Keeps { next: _ } => Write::Nothing,
         Decision::Meets { next: _, met: _ } => Write::Nothing,
         Decision::Takes { next: _ } => Write::Nothing,
@@ -70,7 +81,11 @@ pub fn answer_of(d: Decision, after: Worker) -> Answer
         },
         Decision::Reply { number, write: _ } => Answer::Reply { number },
         Decision::Going { next: _, write: _ } => going(after),
-        Decision::Begins { next: _, write: _, met: _ } => going(after),
+        Decision::Begins {
+            next: _,
+            write: _,
+            met: _,
+        } => going(after),
         Decision::Keeps { next: _ } => going(after),
         Decision::Meets { next: _, met: _ } => going(after),
         Decision::Takes { next: _ } => going(after),

@@ -2,13 +2,13 @@
 ghost use mathlib.Core.Path.{_≡_};
 ghost use Rattle.catalogue.specs.Lent.{Sized, catalogue-in};
 ghost use Rattle.catalogue.specs.Steps.Contains.{settle-contains-edge, step-contains-edge};
+use crate::both::see_both;
 use catalogue::links::EdgeLink;
 use catalogue::links::Target;
 use catalogue::steps::BothSeen;
 use catalogue::steps::Decision;
 use catalogue::workers::Place;
 use catalogue::writes::Write;
-use crate::both::see_both;
 use memory::reads::edge_key;
 use memory::reads::edge_link;
 use memory::reads::edge_target;

@@ -2,9 +2,6 @@
 ghost use mathlib.Core.Path.{_≡_};
 ghost use Rattle.catalogue.specs.Lent.{Sized, catalogue-in};
 ghost use Rattle.catalogue.specs.Steps.Decide.{step-at, decide-at, decide};
-use catalogue::steps::Decision;
-use catalogue::workers::Place;
-use catalogue::workers::Worker;
 use crate::contains::step_contains_edge;
 use crate::edges::step_edge;
 use crate::finding::step_contains;
@@ -14,6 +11,9 @@ use crate::keys::key_refused;
 use crate::trial::step_trial_open;
 use crate::trial::step_trial_shut;
 use crate::vertices::step_vertex;
+use catalogue::steps::Decision;
+use catalogue::workers::Place;
+use catalogue::workers::Worker;
 use workers::records::front_of;
 use workers::requests::request_of;
 
@@ -44,8 +44,27 @@ fn step_at(
         Place::AddE { k, l, u, v, p, c } => step_edge(keys, words, 4, k, l, u, v, p, c),
         Place::RemE { k, l, u, v, p, c } => step_edge(keys, words, 5, k, l, u, v, p, c),
         Place::ConE { k, l, u, v, c } => step_contains_edge(keys, words, k, l, u, v, c),
-        Place::Trial { k, l, u, v, e } => step_trial_shut(keys, words, x, front, back, k, l, u, v, e),
-        Place::TrialOpen { k, l, u, v, e, x: y, c } => step_trial_open(keys, words, met, front, back, k, l, u, v, e, y, c),
+        Place::Trial { k, l, u, v, e } => step_trial_shut(
+            keys,
+            words,
+            x,
+            front,
+            back,
+            k,
+            l,
+            u,
+            v,
+            e,
+        ),
+        Place::TrialOpen {
+            k,
+            l,
+            u,
+            v,
+            e,
+            x: y,
+            c,
+        } => step_trial_open(keys, words, met, front, back, k, l, u, v, e, y, c),
     }
 }
 

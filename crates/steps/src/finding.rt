@@ -2,15 +2,15 @@
 ghost use mathlib.Core.Path.{_≡_};
 ghost use Rattle.catalogue.specs.Lent.{Sized, catalogue-in};
 ghost use Rattle.catalogue.specs.Steps.Finding.{look-for, step-contains, not-found, found-u, found-v, step-find-u, step-find-v};
+use crate::places::edges_place;
+use crate::places::find_u_place;
+use crate::places::find_v_place;
 use catalogue::links::EdgeLink;
 use catalogue::links::VertexLink;
 use catalogue::steps::Decision;
 use catalogue::steps::VertexFound;
 use catalogue::workers::Place;
 use catalogue::writes::Write;
-use crate::places::edges_place;
-use crate::places::find_u_place;
-use crate::places::find_v_place;
 use memory::reads::first_link;
 use memory::reads::vertex_key;
 use memory::reads::vertex_link;
@@ -128,15 +128,7 @@ fn found_v(keys: &[i32], words: &[u32], code: u32, k: i32, l: i32, u: u8, v: u8)
 }
 
 // One step of finding v for l.
-pub fn step_find_v(
-    keys: &[i32],
-    words: &[u32],
-    code: u32,
-    k: i32,
-    l: i32,
-    u: u8,
-    c: u8,
-) -> Decision
+pub fn step_find_v(keys: &[i32], words: &[u32], code: u32, k: i32, l: i32, u: u8, c: u8) -> Decision
     requires { ⌜ Sized (now keys) (now words) ⌝ }
     ensures { λ r. ⌜ r ≡ step-find-v (catalogue-in (now (keys .entry)) (now (words .entry))) code k l u c ⌝ }
 {

@@ -37,22 +37,8 @@ pub fn edge_place(code: u32, k: i32, l: i32, u: u8, v: u8, p: Prev, c: u16) -> P
     ensures { λ r. ⌜ r ≡ edge-place code k l u v p c ⌝ }
 {
     match code {
-        4 => Place::AddE {
-            k,
-            l,
-            u,
-            v,
-            p,
-            c,
-        },
-        _ => Place::RemE {
-            k,
-            l,
-            u,
-            v,
-            p,
-            c,
-        },
+        4 => Place::AddE { k, l, u, v, p, c },
+        _ => Place::RemE { k, l, u, v, p, c },
     }
 }
 

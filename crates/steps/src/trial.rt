@@ -2,6 +2,7 @@
 ghost use mathlib.Core.Path.{_≡_};
 ghost use Rattle.catalogue.specs.Lent.{Sized, catalogue-in};
 ghost use Rattle.catalogue.specs.Steps.Trial.{end-trial, cross, pass-edge, step-open, take-front, step-shut, see-trial, trial-shut, trial-open};
+use crate::both::see_both;
 use catalogue::links::EdgeLink;
 use catalogue::links::Target;
 use catalogue::links::VertexLink;
@@ -9,7 +10,6 @@ use catalogue::steps::BothSeen;
 use catalogue::steps::Decision;
 use catalogue::workers::Place;
 use catalogue::writes::Write;
-use crate::both::see_both;
 use memory::reads::edge_link;
 use memory::reads::edge_target;
 use memory::reads::first_link;
@@ -67,7 +67,7 @@ fn pass_edge(
     requires { ⌜ Sized (now keys) (now words) ⌝ }
     ensures { λ r. ⌜ r ≡ pass-edge (catalogue-in (now (keys .entry)) (now (words .entry))) met back k l u v e x c ⌝ }
 {
-    let EdgeLink::At { next, tag } = edge_link(words, c) else {
+    let EdgeLink::At { next, tag: of_edge } = edge_link(words, c) else {
         return Decision::Torn;
     };
     let onward = Place::TrialOpen {
@@ -79,7 +79,7 @@ fn pass_edge(
         x,
         c: next,
     };
-    if tag == 1 {
+    if of_edge == 1 {
         return Decision::Keeps { next: onward };
     }
     let Target::At { vertex } = edge_target(words, c) else {

@@ -3,12 +3,12 @@ ghost use mathlib.Core.Path.{_≡_};
 ghost use lib.ListN.{length};
 ghost use Rattle.catalogue.specs.Lent.{Sized, catalogue-in};
 ghost use Rattle.catalogue.specs.Steps.Vertices.{see-vertex, look-at-vertex, start-again, step-vertex};
+use crate::places::vertex_place;
+use crate::settling::settle_vertex;
 use catalogue::links::VertexLink;
 use catalogue::steps::Decision;
 use catalogue::steps::VertexSeen;
 use catalogue::writes::Write;
-use crate::places::vertex_place;
-use crate::settling::settle_vertex;
 use memory::reads::vertex_key;
 use memory::reads::vertex_link;
 
@@ -95,6 +95,15 @@ pub fn step_vertex(keys: &[i32], words: &[u32], code: u32, k: i32, p: u8, c: u8)
                 write: Write::Nothing,
             }
         }
-        VertexSeen::Settles { next, equal } => settle_vertex(keys, words, code, k, p, c, next, equal),
+        VertexSeen::Settles { next, equal } => settle_vertex(
+            keys,
+            words,
+            code,
+            k,
+            p,
+            c,
+            next,
+            equal,
+        ),
     }
 }

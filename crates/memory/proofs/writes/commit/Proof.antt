@@ -1,5 +1,5 @@
 -- Each arm calls the function of its kind, whose contract is the definition at that kind. Assumes nothing.
-use Rattle.memory.proofs.Held.{asks, writes}
+use Rattle.memory.proofs.Commits.{asks, kinds}
 use borrow.Author.Needs.{needs}
 use Rattle.memory.proofs.writes.commit.Statement.{statement}
 use Rattle.memory.proofs.writes.commit.Tie as tie
@@ -44,13 +44,13 @@ new-edge-requires : tie.Need-new-edge-requires
 new-edge-requires c κs = (search, (search, search asks))
 
 returns : tie.Need-returns
-returns c = search writes
+returns c = search kinds
 
 same-length : tie.Need-same-length
 same-length c = search needs
 
 returns-2 : tie.Need-returns-2
-returns-2 c = search writes
+returns-2 c = search kinds
 
 same-length-2 : tie.Need-same-length-2
 same-length-2 c = search needs
@@ -59,19 +59,19 @@ same-length-3 : tie.Need-same-length-3
 same-length-3 c = search needs
 
 returns-3 : tie.Need-returns-3
-returns-3 c = search writes
+returns-3 c = search kinds
 
 same-length-4 : tie.Need-same-length-4
 same-length-4 c = search needs
 
 returns-4 : tie.Need-returns-4
-returns-4 c = search writes
+returns-4 c = search kinds
 
 same-length-5 : tie.Need-same-length-5
 same-length-5 c = search needs
 
 returns-5 : tie.Need-returns-5
-returns-5 c = search writes
+returns-5 c = search kinds
 
 same-length-6 : tie.Need-same-length-6
 same-length-6 c = search needs
@@ -80,7 +80,7 @@ same-length-7 : tie.Need-same-length-7
 same-length-7 c = search needs
 
 returns-6 : tie.Need-returns-6
-returns-6 c = search writes
+returns-6 c = search kinds
 
 same-length-8 : tie.Need-same-length-8
 same-length-8 c = search needs
@@ -89,7 +89,7 @@ same-length-9 : tie.Need-same-length-9
 same-length-9 c = search needs
 
 returns-7 : tie.Need-returns-7
-returns-7 c = search writes
+returns-7 c = search kinds
 
 pub commit-spec : {M : Type 1} → statement M
 commit-spec =

@@ -1,5 +1,6 @@
 -- The stores of key, target, link and count are those of the catalogue with the edge. Assumes nothing.
-use Rattle.memory.proofs.Held.{writes}
+use mir.Facts.{toZ-ofZ}
+use Rattle.memory.proofs.Commits.{fill-edge-held}
 use borrow.Author.Needs.{needs}
 use Rattle.memory.proofs.writes.fill_edge.Statement.{statement}
 use Rattle.memory.proofs.writes.fill_edge.Tie as tie
@@ -23,7 +24,7 @@ same-length-2 : tie.Need-same-length-2
 same-length-2 c = search needs
 
 returns : tie.Need-returns
-returns c = search writes
+returns c = search (fill-edge-held, toZ-ofZ)
 
 pub fill-edge-spec : {M : Type 1} → statement M
 fill-edge-spec =

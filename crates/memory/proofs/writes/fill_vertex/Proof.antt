@@ -1,5 +1,6 @@
 -- The stores of key, link, first edge and count are those of the catalogue with the vertex. Assumes nothing.
-use Rattle.memory.proofs.Held.{writes}
+use mir.Facts.{toZ-ofZ}
+use Rattle.memory.proofs.Commits.{fill-vertex-held}
 use borrow.Author.Needs.{needs}
 use Rattle.memory.proofs.writes.fill_vertex.Statement.{statement}
 use Rattle.memory.proofs.writes.fill_vertex.Tie as tie
@@ -26,7 +27,7 @@ same-length-2 : tie.Need-same-length-2
 same-length-2 c = search needs
 
 returns : tie.Need-returns
-returns c = search writes
+returns c = search (fill-vertex-held, toZ-ofZ)
 
 pub fill-vertex-spec : {M : Type 1} → statement M
 fill-vertex-spec =

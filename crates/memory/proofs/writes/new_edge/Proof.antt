@@ -1,5 +1,6 @@
 -- The last link is turned in the catalogue that has the edge already. Assumes nothing.
-use Rattle.memory.proofs.Held.{writes}
+use mir.Facts.{toZ-ofZ}
+use Rattle.memory.proofs.Commits.{new-edge-held}
 use borrow.Author.Needs.{needs}
 use Rattle.memory.proofs.writes.new_edge.Statement.{statement}
 use Rattle.memory.proofs.writes.new_edge.Tie as tie
@@ -17,7 +18,7 @@ same-length-2 : tie.Need-same-length-2
 same-length-2 c = search needs
 
 returns : tie.Need-returns
-returns c = search writes
+returns c = search (new-edge-held, toZ-ofZ)
 
 pub new-edge-spec : {M : Type 1} → statement M
 new-edge-spec =

@@ -1,5 +1,6 @@
 -- The last link is turned in the catalogue that has the vertex already. Assumes nothing.
-use Rattle.memory.proofs.Held.{writes}
+use mir.Facts.{toZ-ofZ}
+use Rattle.memory.proofs.Commits.{new-vertex-held}
 use borrow.Author.Needs.{needs}
 use Rattle.memory.proofs.writes.new_vertex.Statement.{statement}
 use Rattle.memory.proofs.writes.new_vertex.Tie as tie
@@ -17,7 +18,7 @@ same-length-2 : tie.Need-same-length-2
 same-length-2 c = search needs
 
 returns : tie.Need-returns
-returns c = search writes
+returns c = search (new-vertex-held, toZ-ofZ)
 
 pub new-vertex-spec : {M : Type 1} → statement M
 new-vertex-spec =

@@ -1,71 +1,54 @@
--- One law for each function that writes: what its stores and its callees leave is laid memory of the catalogue that its contract names. Assumes nothing.
+-- One law for each function that writes, and for each kind of write, in the shape of the facts that the code has: what the stores and the callees leave
+-- is memory of the catalogue that the contract names. Assumes nothing.
 use Prim.Native.Nat.{ℕ, _+_, _-_, _<_, _≤_}
 use mathlib.Core.List.{List}
-use mathlib.Core.Path.{_≡_, refl, sym, ap, _∙_, subst}
+use mathlib.Core.Path.{_≡_, _∙_, ap, subst}
 use lib.IntN.{ℤ}
 use lib.ListN.{length, set}
 use mir.Facts.{toZ-ofZ}
 use borrow.Author.Needs.{sfits-of}
-use lib.Dec.{lit<}
 use Rattle.catalogue.specs.Numbers.{link, plain, transit, edge-tail}
 use Rattle.catalogue.specs.Catalogue.{Catalogue}
-use Rattle.catalogue.specs.Writes.{commit, with-vertex-link, with-first, with-edge-link, with-vertex, with-edge}
-use Rattle.catalogue.specs.Lent.{lay, catalogue-in}
+use Rattle.catalogue.specs.Writes.{commit, with-vertex, with-edge}
 use Rattle.catalogue.specs.declared.writes.Write.{Write}
 use Rattle.catalogue.specs.declared.writes.Write.the-variants.{Nothing, VertexLink, NewVertex, FirstEdge, EdgeLink, NewFirst, NewEdge}
+use Rattle.catalogue.specs.Lent.{catalogue-in}
 use Rattle.memory.specs.Memories.{Hold, Writable}
-use Rattle.memory.proofs.Laid.{view-keys, view-words}
-use Rattle.memory.proofs.Stores.{set-vertex-link, set-first, set-edge-link, vertex-keys, vertex-words, edge-keys, edge-words}
+use Rattle.memory.proofs.Laid.{view-held}
+use Rattle.memory.proofs.Stores.{vertex-linked, first-linked, edge-linked, vertex-filled, edge-filled}
 
--- One link more, in memory that holds a catalogue.
-module _ (C : Catalogue) (keys : List ℤ) (words words′ : List ℕ) (n word : ℕ) (held : Hold keys words C) where
-  vertex-linked : n < 256 → words′ ≡ set words (2 + n) word → Hold keys words′ (with-vertex-link C n word)
-  unfolding lay
-  vertex-linked h e = (held .0, e ∙ set-vertex-link C n words (held .1) word h)
-
-  first-linked : n < 256 → words′ ≡ set words (258 + n) word → Hold keys words′ (with-first C n word)
-  unfolding lay
-  first-linked h e = (held .0, e ∙ set-first C n words (held .1) word h)
-
-  edge-linked : n < 2048 → words′ ≡ set words (2562 + n) word → Hold keys words′ (with-edge-link C n word)
-  unfolding lay
-  edge-linked h e = (held .0, e ∙ set-edge-link C n words (held .1) word h)
-
--- A key comes to a callee through its bits, so it stands there as another number, equal to it.
+-- A key comes to a callee through its bits, so there it is another number, equal to it.
 module _ (key key′ : ℤ) (same : key′ ≡ key) where
   module _ (keys keys′ : List ℤ) (words w₁ w₂ w₃ : List ℕ) (n next : ℕ) (hk : length keys ≡ 2304) (hw : length words ≡ 4610) where
-    pub vertex-filled : n < 256 → keys′ ≡ set keys n key′
+    pub fill-vertex-held : n < 256 → keys′ ≡ set keys n key′
         → w₁ ≡ set words (2 + n) (link next plain) → w₂ ≡ set w₁ (258 + n) (link edge-tail plain) → w₃ ≡ set w₂ 0 (n - 1)
         → Hold keys′ w₃ (with-vertex (catalogue-in keys words) n key next)
-    vertex-filled h k e₁ e₂ e₃ =
-        let C = catalogue-in keys words in
-        (rw (k, same) (vertex-keys C n keys (view-keys keys words hk) key next h), rw (e₃, e₂, e₁) (vertex-words C n words (view-words keys words hw) key next h))
+    fill-vertex-held h k = vertex-filled (catalogue-in keys words) keys keys′ words w₁ w₂ w₃ (view-held keys words hk hw) n key next h (k ∙ ap (set keys n) same)
 
-    pub edge-filled : (target : ℕ) → n < 2048 → keys′ ≡ set keys (256 + n) key′
+    pub fill-edge-held : (target : ℕ) → n < 2048 → keys′ ≡ set keys (256 + n) key′
         → w₁ ≡ set words (514 + n) target → w₂ ≡ set w₁ (2562 + n) (link next transit) → w₃ ≡ set w₂ 1 n
         → Hold keys′ w₃ (with-edge (catalogue-in keys words) n key target next)
-    edge-filled target h k e₁ e₂ e₃ =
-        let C = catalogue-in keys words in
-        (rw (k, same) (edge-keys C n keys (view-keys keys words hk) key next target h), rw (e₃, e₂, e₁) (edge-words C n words (view-words keys words hw) key next target h))
+    fill-edge-held target h k =
+        edge-filled (catalogue-in keys words) keys keys′ words w₁ w₂ w₃ (view-held keys words hk hw) n key target next h (k ∙ ap (set keys (256 + n)) same)
 
   module _ (C : Catalogue) (keys : List ℤ) (words words′ : List ℕ) (n next : ℕ) where
     pub new-vertex-held : (p : ℕ) → Hold keys words (with-vertex C n key′ next) → p < 256 → words′ ≡ set words (2 + p) (link n plain)
         → Hold keys words′ (commit C (NewVertex n key next p))
     unfolding commit
-    new-vertex-held p held h e = vertex-linked (with-vertex C n key next) keys words words′ p (link n plain) (rw same at held) h e
+    new-vertex-held p held = vertex-linked (with-vertex C n key next) keys words words′ (rw same at held) p (link n plain)
 
     pub new-first-held : (target u : ℕ) → Hold keys words (with-edge C n key′ target next) → u < 256 → words′ ≡ set words (258 + u) (link n plain)
         → Hold keys words′ (commit C (NewFirst n key target next u))
     unfolding commit
-    new-first-held target u held h e = first-linked (with-edge C n key target next) keys words words′ u (link n plain) (rw same at held) h e
+    new-first-held target u held = first-linked (with-edge C n key target next) keys words words′ (rw same at held) u (link n plain)
 
     pub new-edge-held : (target p tag : ℕ) → Hold keys words (with-edge C n key′ target next) → p < 2048 → words′ ≡ set words (2562 + p) (link n tag)
         → Hold keys words′ (commit C (NewEdge n key target next p tag))
     unfolding commit
-    new-edge-held target p tag held h e = edge-linked (with-edge C n key target next) keys words words′ p (link n tag) (rw same at held) h e
+    new-edge-held target p tag held = edge-linked (with-edge C n key target next) keys words words′ (rw same at held) p (link n tag)
 
--- A write that is one of its kinds: what it asks, and what it leaves.
 module _ (write : Write) where
+  -- what a write of each kind asks
   pub new-vertex-asks : (n : ℕ) (key : ℤ) (next p : ℕ) → Writable write → write ≡ NewVertex n key next p → 2 ≤ n
   new-vertex-asks n key next p w e = subst Writable e w
 
@@ -82,6 +65,7 @@ module _ (write : Write) where
     pub new-edge-asks-p : p < 2048
     new-edge-asks-p = subst Writable e w .1
 
+  -- what it leaves: a new node, as its function says
   module _ (C : Catalogue) (keys : List ℤ) (words : List ℕ) (key key′ : ℤ) (n next : ℕ) where
     committed : (kind : ℤ → Write) → write ≡ kind key → key′ ≡ key → Hold keys words (commit C (kind key′)) → Hold keys words (commit C write)
     committed kind e same held = rw e (rw same at held)
@@ -98,48 +82,40 @@ module _ (write : Write) where
         → Hold keys words (commit C (NewEdge n key′ target next p tag)) → Hold keys words (commit C write)
     new-edge-committed target p tag = committed (λ k. NewEdge n k target next p tag)
 
+  -- a link, or nothing
   module _ (keys : List ℤ) (words : List ℕ) (hk : length keys ≡ 2304) (hw : length words ≡ 4610) where
-    unchanged : Hold keys words (catalogue-in keys words)
-    unchanged = (view-keys keys words hk, view-words keys words hw)
-
-    pub nothing-held : write ≡ Nothing → Hold keys words (commit (catalogue-in keys words) write)
+    pub nothing-committed : write ≡ Nothing → Hold keys words (commit (catalogue-in keys words) write)
     unfolding commit
-    nothing-held e = rw e unchanged
+    nothing-committed e = rw e (view-held keys words hk hw)
 
     module _ (words′ : List ℕ) (n next : ℕ) where
-      pub vertex-link-held : (tag : ℕ) → write ≡ VertexLink n next tag → words′ ≡ set words (2 + n) (link next tag) → n < 256
+      pub vertex-link-committed : (tag : ℕ) → write ≡ VertexLink n next tag → n < 256 → words′ ≡ set words (2 + n) (link next tag)
           → Hold keys words′ (commit (catalogue-in keys words) write)
       unfolding commit
-      vertex-link-held tag e s h = rw e (vertex-linked (catalogue-in keys words) keys words words′ n (link next tag) unchanged h s)
+      vertex-link-committed tag e h s = rw e (vertex-linked (catalogue-in keys words) keys words words′ (view-held keys words hk hw) n (link next tag) h s)
 
-      pub first-edge-held : write ≡ FirstEdge n next → words′ ≡ set words (258 + n) (link next plain) → n < 256
+      pub first-edge-committed : write ≡ FirstEdge n next → n < 256 → words′ ≡ set words (258 + n) (link next plain)
           → Hold keys words′ (commit (catalogue-in keys words) write)
       unfolding commit
-      first-edge-held e s h = rw e (first-linked (catalogue-in keys words) keys words words′ n (link next plain) unchanged h s)
+      first-edge-committed e h s = rw e (first-linked (catalogue-in keys words) keys words words′ (view-held keys words hk hw) n (link next plain) h s)
 
-      pub edge-link-held : (tag : ℕ) → write ≡ EdgeLink n next tag → words′ ≡ set words (2562 + n) (link next tag) → Writable write
+      pub edge-link-committed : (tag : ℕ) → write ≡ EdgeLink n next tag → Writable write → words′ ≡ set words (2562 + n) (link next tag)
           → Hold keys words′ (commit (catalogue-in keys words) write)
       unfolding commit
-      edge-link-held tag e s w =
-          rw e (edge-linked (catalogue-in keys words) keys words words′ n (link next tag) unchanged (edge-link-asks n next tag w e) s)
+      edge-link-committed tag e w s =
+          rw e (edge-linked (catalogue-in keys words) keys words words′ (view-held keys words hk hw) n (link next tag) (edge-link-asks n next tag w e) s)
 
 pub ruleset asks = (new-vertex-asks, edge-link-asks, new-first-asks, new-edge-asks, new-edge-asks-p)
 
-pub ruleset writes = (
-  tt,
-  lit<,
+-- the bits of a key, and the law of each kind
+pub ruleset kinds = (
   toZ-ofZ,
   sfits-of,
-  vertex-filled,
-  edge-filled,
-  new-vertex-held,
-  new-first-held,
-  new-edge-held,
   new-vertex-committed,
   new-first-committed,
   new-edge-committed,
-  nothing-held,
-  vertex-link-held,
-  first-edge-held,
-  edge-link-held,
+  nothing-committed,
+  vertex-link-committed,
+  first-edge-committed,
+  edge-link-committed,
 )

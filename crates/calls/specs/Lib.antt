@@ -1,0 +1,3 @@
+-- What the contracts of the public calls say, and that it leaves no choice.
+pub mod Promised
+pub mod Unique

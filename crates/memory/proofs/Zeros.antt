@@ -1,0 +1,75 @@
+-- Memory of zeros is that of a catalogue of zeros, which the head's key and the head's link make the fresh one; and what a call for it leaves. Assumes nothing.
+use Prim.Native.Nat.{ℕ, _+_, _<_}
+use mathlib.Core.List.{List}
+use mathlib.Core.Path.{_≡_, refl}
+use native.Mathlib.Omega.{arith}
+use lib.IntN.{ℤ, pos}
+use lib.ListN.{length, getD, set, replicate, length-replicate, getD-replicate}
+use lib.Dec.{lit<}
+use borrow.Author.Tests.{eq-eqb, ne-eqb}
+use Rattle.catalogue.specs.Numbers.{link, least, head, tail, plain}
+use Rattle.catalogue.specs.Catalogue.{Catalogue, fresh}
+use Rattle.catalogue.specs.Lent.{Memory, Lent-made, lay, sized, lent-fresh, keys-size, words-size}
+use Rattle.catalogue.specs.declared.answers.Refusal.the-variants as refusal
+use Rattle.catalogue.specs.declared.answers.Made.{Made}
+use Rattle.catalogue.specs.declared.answers.Made.the-variants as made
+use Rattle.memory.specs.Memories.{Hold}
+use Rattle.memory.proofs.Laid.{laid-keys, laid-words}
+use Rattle.memory.proofs.Tables.{set-front}
+
+zeros : Catalogue
+zeros = record {
+  vertices-out = 0;
+  edges-out = 0;
+  vkey = λ n. pos 0;
+  vlink = λ n. 0;
+  first = λ n. 0;
+  ekey = λ n. pos 0;
+  target = λ n. 0;
+  elink = λ n. 0;
+}
+
+zero-at : {A : Type 0} (v : A) (size : ℕ) (l : List A) → l ≡ replicate size v → (n : ℕ) → n < size → getD l n v ≡ v
+zero-at v size l e n h = rw e (getD-replicate size n v v h)
+
+zero-keys : (size : ℕ) (keys : List ℤ) → size ≡ keys-size → keys ≡ replicate size (pos 0) → keys ≡ lay zeros .keys
+unfolding zeros
+zero-keys size keys s e =
+    let at : (n : ℕ) → n < size → getD keys n (pos 0) ≡ pos 0 = zero-at (pos 0) size keys e in
+    laid-keys zeros keys (rw (e, length-replicate) s) (λ n h. at n (omega arith)) (λ n h. at (256 + n) (omega arith))
+
+zero-words : (size : ℕ) (words : List ℕ) → size ≡ words-size → words ≡ replicate size 0 → words ≡ lay zeros .words
+unfolding zeros
+zero-words size words s e =
+    let at : (n : ℕ) → n < size → getD words n 0 ≡ 0 = zero-at 0 size words e in
+    laid-words zeros words (rw (e, length-replicate) s)
+    (at 0 (omega arith)) (at 1 (omega arith))
+    (λ n h. at (2 + n) (omega arith)) (λ n h. at (258 + n) (omega arith))
+    (λ n h. at (514 + n) (omega arith)) (λ n h. at (2562 + n) (omega arith))
+
+-- What the call on lent memory leaves: the answer and the two slices.
+abbrev Leaves : Made → List ℤ → List ℕ → Lent-made → Type 0
+Leaves answer keys words l = (answer ≡ l .answer) × ((keys ≡ l .memory .keys) × (words ≡ l .memory .words))
+
+module _ (m : Memory) where
+  pub keys-refused : (length (m .keys) ≡ keys-size → ⊥) → Leaves (made.Refused refusal.Room) (m .keys) (m .words) (lent-fresh m)
+  unfolding lent-fresh sized
+  keys-refused h = rw (ne-eqb (length (m .keys)) keys-size h) (refl, (refl, refl))
+
+  module _ (hk : length (m .keys) ≡ keys-size) where
+    pub words-refused : (length (m .words) ≡ words-size → ⊥) → Leaves (made.Refused refusal.Room) (m .keys) (m .words) (lent-fresh m)
+    unfolding lent-fresh sized
+    words-refused h = rw (eq-eqb (length (m .keys)) keys-size hk, ne-eqb (length (m .words)) words-size h) (refl, (refl, refl))
+
+    pub fresh-made : (keys : List ℤ) (words : List ℕ) → length (m .words) ≡ words-size → Hold keys words fresh → Leaves made.Done keys words (lent-fresh m)
+    unfolding lent-fresh sized
+    fresh-made keys words hw held = rw (eq-eqb (length (m .keys)) keys-size hk, eq-eqb (length (m .words)) words-size hw) (refl, held)
+
+pub fresh-laid : (keys k₁ k₂ : List ℤ) (words w₁ w₂ : List ℕ) (key : ℤ) → length keys ≡ keys-size → length words ≡ words-size
+    → k₁ ≡ replicate (length keys) (pos 0) → k₂ ≡ set k₁ head key → key ≡ least
+    → w₁ ≡ replicate (length words) 0 → w₂ ≡ set w₁ (2 + head) (link tail plain)
+    → Hold k₂ w₂ fresh
+unfolding zeros lay
+fresh-laid keys k₁ k₂ words w₁ w₂ key hk hw ek₁ ek₂ e ew₁ ew₂ =
+    let h : head < 256 = lit< tt in
+    (rw (ek₂, zero-keys (length keys) k₁ hk ek₁, e) (simp set-front), rw (ew₂, zero-words (length words) w₁ hw ew₁) (simp set-front))

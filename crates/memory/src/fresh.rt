@@ -1,0 +1,65 @@
+// A fresh catalogue in lent memory.
+ghost use mathlib.Core.Path.{_≡_};
+ghost use lib.IntN.{pos};
+ghost use lib.ListN.{length, replicate};
+ghost use Rattle.catalogue.specs.Catalogue.{fresh};
+ghost use Rattle.catalogue.specs.Lent.{lent-fresh, memory-of};
+ghost use Rattle.memory.specs.Memories.{Hold};
+use crate::KEYS_SIZE;
+use crate::WORDS_SIZE;
+use crate::writes::put_vertex_key;
+use crate::writes::put_vertex_link;
+use catalogue::answers::Made;
+use catalogue::answers::Refusal;
+
+fn clear_keys(keys: &mut [i32])
+    ensures { λ r. ⌜ now (keys .exit) ≡ replicate (length (now (keys .entry))) (pos 0) ⌝ }
+{
+    let mut i = 0;
+    while i < keys.len() {
+        keys[i] = 0;
+        i += 1;
+    }
+}
+
+fn clear_words(words: &mut [u32])
+    ensures { λ r. ⌜ now (words .exit) ≡ replicate (length (now (words .entry))) 0 ⌝ }
+{
+    let mut i = 0;
+    while i < words.len() {
+        words[i] = 0;
+        i += 1;
+    }
+}
+
+// All of it is zero, but for the head's key and the head's link to the tail.
+pub fn lay_fresh(keys: &mut [i32], words: &mut [u32])
+    requires { ⌜ length (now keys) ≡ 2304 ⌝ }
+    requires { ⌜ length (now words) ≡ 4610 ⌝ }
+    ensures { λ r. ⌜ Hold (now (keys .exit)) (now (words .exit)) fresh ⌝ }
+{
+    clear_keys(keys);
+    clear_words(words);
+    put_vertex_key(keys, 0, -2147483648);
+    put_vertex_link(words, 0, 1, 0);
+}
+
+// Memory of another size is refused and left as it is.
+pub fn fresh(keys: &mut [i32], words: &mut [u32]) -> Made
+    ensures { λ r. ⌜ r ≡ lent-fresh (memory-of (now (keys .entry)) (now (words .entry))) .answer ⌝ }
+    ensures { λ r. ⌜ now (keys .exit) ≡ lent-fresh (memory-of (now (keys .entry)) (now (words .entry))) .memory .keys ⌝ }
+    ensures { λ r. ⌜ now (words .exit) ≡ lent-fresh (memory-of (now (keys .entry)) (now (words .entry))) .memory .words ⌝ }
+{
+    if keys.len() != KEYS_SIZE {
+        return Made::Refused {
+            refusal: Refusal::Room,
+        };
+    }
+    if words.len() != WORDS_SIZE {
+        return Made::Refused {
+            refusal: Refusal::Room,
+        };
+    }
+    lay_fresh(keys, words);
+    Made::Done
+}
