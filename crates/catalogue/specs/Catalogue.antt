@@ -1,4 +1,4 @@
--- Document 01, "Numbers", paragraphs 2 and 3: the catalogue, the fresh one, and what is read in it.
+-- Document 01, "Numbers", paragraph 2: the catalogue, the fresh one, and what is read in it.
 use Prim.Native.Nat.{ℕ, _+_}
 use mathlib.Core.Bool.{Bool, true, false}
 use mathlib.Core.List.{List, _++_, []}

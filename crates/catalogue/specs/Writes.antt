@@ -1,5 +1,5 @@
--- What each kind of write leaves in the catalogue. Document 01, "The steps", the paragraphs on AddV and on AddE: a new node is filled, then counted,
--- then linked, in this order, so that the last link wins where the new node is p itself (a node linked though never handed out).
+-- What each kind of write leaves in the catalogue: document 01, "The steps", the paragraphs on AddV and on AddE. A new node is filled, then counted,
+-- then linked. The order shows only where the new node is p itself (a node linked though never handed out): the last link wins there.
 use Prim.Native.Nat.{ℕ, _-_}
 use lib.IntN.{ℤ}
 use Rattle.catalogue.specs.Tests.{upd}

@@ -13,6 +13,7 @@ use Rattle.catalogue.specs.Lent.{Memory, Lent-made, lay, sized, lent-fresh, key
 use Rattle.catalogue.specs.declared.answers.Refusal.the-variants as refusal
 use Rattle.catalogue.specs.declared.answers.Made.{Made}
 use Rattle.catalogue.specs.declared.answers.Made.the-variants as made
+use Rattle.memory.specs.Promised.{Makes-fresh}
 use Rattle.memory.specs.Memories.{Hold}
 use Rattle.memory.proofs.Laid.{laid-keys, laid-words}
 use Rattle.memory.proofs.Tables.{set-front}
@@ -47,21 +48,17 @@ zero-words size words s e =
     (λ n h. at (2 + n) (omega arith)) (λ n h. at (258 + n) (omega arith))
     (λ n h. at (514 + n) (omega arith)) (λ n h. at (2562 + n) (omega arith))
 
--- What the call on lent memory leaves: the answer and the two slices.
-abbrev Leaves : Made → List ℤ → List ℕ → Lent-made → Type 0
-Leaves answer keys words l = (answer ≡ l .answer) × ((keys ≡ l .memory .keys) × (words ≡ l .memory .words))
-
 module _ (m : Memory) where
-  pub keys-refused : (length (m .keys) ≡ keys-size → ⊥) → Leaves (made.Refused refusal.Room) (m .keys) (m .words) (lent-fresh m)
+  pub keys-refused : (length (m .keys) ≡ keys-size → ⊥) → Makes-fresh m (made.Refused refusal.Room) (m .keys) (m .words)
   unfolding lent-fresh sized
   keys-refused h = rw (ne-eqb (length (m .keys)) keys-size h) (refl, (refl, refl))
 
   module _ (hk : length (m .keys) ≡ keys-size) where
-    pub words-refused : (length (m .words) ≡ words-size → ⊥) → Leaves (made.Refused refusal.Room) (m .keys) (m .words) (lent-fresh m)
+    pub words-refused : (length (m .words) ≡ words-size → ⊥) → Makes-fresh m (made.Refused refusal.Room) (m .keys) (m .words)
     unfolding lent-fresh sized
     words-refused h = rw (eq-eqb (length (m .keys)) keys-size hk, ne-eqb (length (m .words)) words-size h) (refl, (refl, refl))
 
-    pub fresh-made : (keys : List ℤ) (words : List ℕ) → length (m .words) ≡ words-size → Hold keys words fresh → Leaves made.Done keys words (lent-fresh m)
+    pub fresh-made : (keys : List ℤ) (words : List ℕ) → length (m .words) ≡ words-size → Hold keys words fresh → Makes-fresh m made.Done keys words
     unfolding lent-fresh sized
     fresh-made keys words hw held = rw (eq-eqb (length (m .keys)) keys-size hk, eq-eqb (length (m .words)) words-size hw) (refl, held)
 

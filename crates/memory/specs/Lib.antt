@@ -1,2 +1,3 @@
 -- What the contracts of the lent memory cite beside the definitions of document 01.
 pub mod Memories
+pub mod Promised

@@ -3,7 +3,8 @@ ghost use mathlib.Core.Path.{_≡_};
 ghost use lib.IntN.{pos};
 ghost use lib.ListN.{length, replicate};
 ghost use Rattle.catalogue.specs.Catalogue.{fresh};
-ghost use Rattle.catalogue.specs.Lent.{lent-fresh, memory-of};
+ghost use Rattle.catalogue.specs.Lent.{memory-of};
+ghost use Rattle.memory.specs.Promised.{Makes-fresh};
 ghost use Rattle.memory.specs.Memories.{Hold};
 use crate::KEYS_SIZE;
 use crate::WORDS_SIZE;
@@ -46,9 +47,7 @@ pub fn lay_fresh(keys: &mut [i32], words: &mut [u32])
 
 // Memory of another size is refused and left as it is.
 pub fn fresh(keys: &mut [i32], words: &mut [u32]) -> Made
-    ensures { λ r. ⌜ r ≡ lent-fresh (memory-of (now (keys .entry)) (now (words .entry))) .answer ⌝ }
-    ensures { λ r. ⌜ now (keys .exit) ≡ lent-fresh (memory-of (now (keys .entry)) (now (words .entry))) .memory .keys ⌝ }
-    ensures { λ r. ⌜ now (words .exit) ≡ lent-fresh (memory-of (now (keys .entry)) (now (words .entry))) .memory .words ⌝ }
+    ensures { λ r. ⌜ Makes-fresh (memory-of (now (keys .entry)) (now (words .entry))) r (now (keys .exit)) (now (words .exit)) ⌝ }
 {
     if keys.len() != KEYS_SIZE {
         return Made::Refused {

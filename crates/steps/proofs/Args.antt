@@ -127,35 +127,6 @@ trial-shut-arg C x front back k l u v e k′ l′ r = arg₂ (λ k l. trial-shut
 pub trial-open-arg : (C : Catalogue) (met : List ℕ) (front : ℕ) (back : ℕ) (k : ℤ) (l : ℤ) (u : ℕ) (v : ℕ) (e : ℕ) (x : ℕ) (c : ℕ) (k′ l′ : ℤ) (r : Decision) → r ≡ trial-open C met front back k′ l′ u v e x c → k′ ≡ k → l′ ≡ l → r ≡ trial-open C met front back k l u v e x c
 trial-open-arg C met front back k l u v e x c k′ l′ r = arg₂ (λ k l. trial-open C met front back k l u v e x c) r k l k′ l′
 
-pub ruleset args = (
-  see-vertex-arg,
-  look-at-vertex-arg,
-  start-again-arg,
-  settle-add-vertex-arg,
-  settle-vertex-arg,
-  look-for-arg,
-  found-u-arg,
-  found-v-arg,
-  vertex-place-arg,
-  find-u-place-arg,
-  find-v-place-arg,
-  edge-place-arg,
-  edges-place-arg,
-  see-key-arg,
-  see-edge-arg,
-  see-behind-arg,
-  look-at-edge-arg,
-  insert-arg,
-  settle-add-edge-arg,
-  settle-edge-arg,
-  restart-arg,
-  pass-edge-arg,
-  cross-arg,
-  step-open-arg,
-  take-front-arg,
-  step-shut-arg,
-)
-
 -- those of whole steps
 pub ruleset step-args = (
   step-vertex-arg,

@@ -23,7 +23,7 @@ use Rattle.catalogue.specs.declared.steps.Decision.{Decision}
 use Rattle.catalogue.specs.declared.steps.Decision.the-variants.{Going, Begins, Reply}
 use Rattle.catalogue.proofs.Ways.{ways, arg}
 use Rattle.steps.proofs.Pools.{edge-in-pool, vertex-in-pool}
-use Rattle.steps.proofs.Args.{args}
+use Rattle.steps.proofs.Args.{see-vertex-arg, look-at-vertex-arg, start-again-arg, vertex-place-arg, settle-vertex-arg, settle-add-vertex-arg, settle-add-edge-arg, insert-arg, look-for-arg, found-u-arg, found-v-arg, find-u-place-arg, find-v-place-arg, edges-place-arg, see-key-arg, see-edge-arg, see-behind-arg, look-at-edge-arg, settle-edge-arg, restart-arg, edge-place-arg, pass-edge-arg, cross-arg, step-open-arg, take-front-arg, step-shut-arg}
 
 -- a value l that the code knows as r, and r as the constructor s
 by : {A B : Type 0} (f : A → B) (l r s : A) (x : B) → r ≡ l → r ≡ s → x ≡ f s → x ≡ f l
@@ -85,26 +85,58 @@ reserved-is k k′ r t e s q = ap reserved (sym s) ∙ sym e ∙ q
 pub reserved-arg : (k k′ : ℤ) (r : Bool) → r ≡ reserved k′ → k′ ≡ k → r ≡ reserved k
 reserved-arg k k′ r = arg reserved r k k′
 
-pub ruleset steps = (
+-- ---- what each file's ways need
+
+pub ruleset place-ways = (ways, edge-place-arg, eqb-arm)
+
+pub ruleset key-ways = (ways, reserved-is, reserved-arg)
+
+pub ruleset vertex-ways = (ways, see-vertex-arg, look-at-vertex-arg, start-again-arg, vertex-place-arg, settle-vertex-arg, vertex-seen, going-same)
+
+pub ruleset settle-ways = (
   ways,
-  args,
-  vertex-seen,
-  contains-seen,
-  find-u-seen,
-  find-v-seen,
-  edge-seen,
+  settle-add-vertex-arg,
+  settle-add-edge-arg,
+  insert-arg,
   vertex-left,
   edge-left,
-  behind-by,
-  relink-by,
   insert-by,
-  going-same,
   begins-same,
-  reply-same,
   eqb-arm,
-  met-is,
-  edge-in-pool,
   vertex-in-pool,
 )
 
-pub ruleset keys = (ways, reserved-is, reserved-arg)
+pub ruleset find-ways = (
+  ways,
+  look-for-arg,
+  found-u-arg,
+  found-v-arg,
+  find-u-place-arg,
+  find-v-place-arg,
+  edges-place-arg,
+  contains-seen,
+  find-u-seen,
+  find-v-seen,
+  going-same,
+  reply-same,
+  eqb-arm,
+)
+
+pub ruleset contains-ways = (ways, edge-in-pool)
+
+pub ruleset edge-ways = (
+  ways,
+  see-key-arg,
+  see-edge-arg,
+  see-behind-arg,
+  look-at-edge-arg,
+  settle-edge-arg,
+  restart-arg,
+  edge-place-arg,
+  edge-seen,
+  behind-by,
+  relink-by,
+  going-same,
+)
+
+pub ruleset trial-ways = (ways, pass-edge-arg, cross-arg, step-open-arg, take-front-arg, step-shut-arg, met-is, edge-in-pool)

@@ -22,7 +22,7 @@ around-zero = prints
 abbrev bad-line : Example
 bad-line = prints "1 1 1\n7 5\n0\n" "refused 27 2\n"
 
--- Every reply of the second table's rows that P1 to P10 do not give: 2 for each of codes 1 to 3, 4, 5, 7, and 1 for codes 3, 5 and 6.
+-- Replies that P1 to P10 do not give: 2 for codes 1 to 3, 4 and 7, and 1 for codes 3, 5 and 6.
 abbrev other-replies : Example
 other-replies = answers 2
     (on-trial ++ (call 1 4 (pos 5) (pos 7) 4 ++ (stepped 0 3 ++ (call 1 4 (pos 5) (pos 7) 4 ++ (call 1 6 (pos 5) (pos 7) 4
@@ -41,8 +41,26 @@ swept = answers 1
 abbrev met-counts : Example
 met-counts = meets 2 (both-inserted ++ stepped 0 4) (0 ∷ 0 ∷ 0 ∷ 0 ∷ 0 ∷ 0 ∷ 0 ∷ 0 ∷ 0 ∷ 1 ∷ 0 ∷ 0 ∷ 0 ∷ 0 ∷ 1 ∷ 1 ∷ 2 ∷ 2 ∷ 0 ∷ [])
 
+-- Two workers in each other's way: looks that unlink and mark, edges to removed targets, a key removed and added again.
+abbrev crossing-removals : Example
+crossing-removals = prints
+    "2 9 5 86\n1 1\n1 2\n1 3\n4 3 2\n4 3 1\n4 3 3\n1 1\n5 3 3\n4 3 1\n4 3 1\n2 1\n1 1\n6 3 3\n4 1 3\n0 0 0 0 0 0 0 0 0 0 1 0 0 0 1 0 1 0 1 1 0 0 0 0 0 0 0 0 0 0 0 0 0 0 0 0 1 0 0 0 0 0 0 0 0 0 0 0 0 0 0 1 1 1 1 1 1 1 1 1 1 0 1 1 1 1 1 0 1 1 1 1 1 1 1 1 1 1 1 1 0 0 0 0 0 0\n"
+    "12 3 1\n2 0 1 1\n5 0 1 1\n9 0 1 1\n24 0 4 1\n33 0 4 1\n45 0 4 6\n47 0 1 2\n52 1 4 4\n54 1 2 1\n57 1 1 1\n69 1 6 8\n86 0 5 5\n1\n2\n3\n3 2\n"
+
+-- Three workers: looks that start again, trials whose ends are removed, vertices dropped from the queue.
+abbrev starting-again : Example
+starting-again = prints
+    "3 9 3 5 90\n1 1\n1 2\n1 3\n1 4\n2 1\n1 2\n4 4 1\n4 2 3\n2 3\n4 1 4\n4 4 2\n1 4\n1 4\n1 2\n4 1 4\n1 4\n1 1\n0 0 0 0 0 0 0 0 0 0 0 0 2 2 1 0 2 2 2 2 2 0 0 1 2 2 0 1 1 1 1 1 2 2 2 2 2 0 0 0 0 0 1 1 0 0 0 0 0 0 2 1 0 0 0 0 0 0 1 1 1 1 1 1 1 0 0 0 0 0 0 1 2 2 2 2 2 0 0 0 0 0 1 1 1 1 1 1 1 1\n"
+    "16 2 2\n2 0 1 1\n5 0 1 1\n9 0 1 1\n19 2 1 1\n25 2 1 2\n39 0 1 2\n41 0 2 1\n43 1 4 3\n46 0 1 2\n51 2 4 3\n53 0 4 3\n68 0 4 1\n71 0 2 1\n76 2 1 2\n84 1 4 1\n87 1 1 2\n2\n4\n4 2\n"
+
+-- Three workers with trials that meet the same vertices, removed ones among them.
+abbrev crossed-trials : Example
+crossed-trials = prints
+    "3 5 9 5 65\n1 1\n1 2\n1 3\n4 1 2\n4 3 2\n4 3 3\n4 3 2\n4 1 3\n4 3 3\n1 1\n4 3 1\n5 3 3\n4 1 2\n4 2 2\n4 2 1\n2 1\n6 1 2\n3 2\n1 3\n0 0 0 0 0 0 0 0 0 0 0 0 0 0 0 0 0 0 0 1 0 0 1 2 2 2 2 2 0 2 2 0 0 0 0 0 1 1 1 1 1 2 0 0 2 2 2 0 0 0 0 1 1 1 0 0 0 0 0 1 1 1 1 1 1\n"
+    "8 2 1\n2 0 1 1\n5 0 1 1\n9 0 1 1\n17 0 4 1\n45 2 4 6\n47 2 2 1\n49 0 4 1\n54 1 4 6\n2\n3\n3 2\n"
+
 abbrev pub table : List Example
-table = dead-target ∷ around-zero ∷ bad-line ∷ other-replies ∷ swept ∷ met-counts ∷ []
+table = dead-target ∷ around-zero ∷ bad-line ∷ other-replies ∷ swept ∷ met-counts ∷ crossing-removals ∷ starting-again ∷ crossed-trials ∷ []
 
 pub checked : map found table ≡ map expected table
 unfolding found expected

@@ -1,5 +1,5 @@
 -- Each way out is the case of the definition that its tests and reads choose. Assumes nothing.
-use Rattle.steps.proofs.Seen.{steps}
+use Rattle.catalogue.proofs.Ways.{ways}
 use Rattle.catalogue.specs.Steps.Both.{see-both}
 use borrow.Author.Needs.{needs}
 use Rattle.steps.proofs.both.see_both.Statement.{statement}
@@ -16,11 +16,11 @@ enum-told c = search needs
 
 returns : tie.Need-returns
 unfolding see-both
-returns c = search steps
+returns c = search ways
 
 returns-2 : tie.Need-returns-2
 unfolding see-both
-returns-2 c = search steps
+returns-2 c = search ways
 
 vertex-link-requires-2 : tie.Need-vertex-link-requires-2
 vertex-link-requires-2 c κs = search needs
@@ -33,15 +33,15 @@ enum-told-2 c = search needs
 
 returns-3 : tie.Need-returns-3
 unfolding see-both
-returns-3 c = search steps
+returns-3 c = search ways
 
 returns-4 : tie.Need-returns-4
 unfolding see-both
-returns-4 c = search steps
+returns-4 c = search ways
 
 returns-5 : tie.Need-returns-5
 unfolding see-both
-returns-5 c = search steps
+returns-5 c = search ways
 
 pub see-both-spec : {M : Type 1} → statement M
 see-both-spec =

@@ -1,5 +1,5 @@
 -- Each way out is the case of the definition that its tests and reads choose. Assumes nothing.
-use Rattle.steps.proofs.Seen.{steps}
+use Rattle.steps.proofs.Seen.{contains-ways}
 use Rattle.catalogue.specs.Steps.Contains.{step-contains-edge}
 use borrow.Author.Needs.{needs}
 use Rattle.steps.proofs.contains.step_contains_edge.Statement.{statement}
@@ -19,26 +19,26 @@ enum-told c = search needs
 
 returns : tie.Need-returns
 unfolding step-contains-edge
-returns c = search steps
+returns c = search contains-ways
 
 returns-2 : tie.Need-returns-2
 unfolding step-contains-edge
-returns-2 c = search steps
+returns-2 c = search contains-ways
 
 settle-contains-edge-requires : tie.Need-settle-contains-edge-requires
 settle-contains-edge-requires c κs = search needs
 
 returns-3 : tie.Need-returns-3
 unfolding step-contains-edge
-returns-3 c = search steps
+returns-3 c = search contains-ways
 
 returns-4 : tie.Need-returns-4
 unfolding step-contains-edge
-returns-4 c = search steps
+returns-4 c = search contains-ways
 
 returns-5 : tie.Need-returns-5
 unfolding step-contains-edge
-returns-5 c = search steps
+returns-5 c = search contains-ways
 
 pub step-contains-edge-spec : {M : Type 1} → statement M
 step-contains-edge-spec =

@@ -1,5 +1,5 @@
 -- Each way out is the case of the definition that its tests and reads choose. Assumes nothing.
-use Rattle.steps.proofs.Seen.{steps}
+use Rattle.steps.proofs.Seen.{edge-ways}
 use borrow.Author.Needs.{needs}
 use Rattle.steps.proofs.edges.link_behind.Statement.{statement}
 use Rattle.steps.proofs.edges.link_behind.Tie as tie
@@ -17,10 +17,10 @@ edge-link-requires : tie.Need-edge-link-requires
 edge-link-requires c κs = search needs
 
 returns : tie.Need-returns
-returns c = search steps
+returns c = search edge-ways
 
 returns-2 : tie.Need-returns-2
-returns-2 c = search steps
+returns-2 c = search edge-ways
 
 pub link-behind-spec : {M : Type 1} → statement M
 link-behind-spec =

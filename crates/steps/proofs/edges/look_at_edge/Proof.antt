@@ -1,5 +1,5 @@
 -- Each way out is the case of the definition that its tests and reads choose. Assumes nothing.
-use Rattle.steps.proofs.Seen.{steps}
+use Rattle.steps.proofs.Seen.{edge-ways}
 use Rattle.catalogue.specs.Steps.Edges.{look-at-edge}
 use borrow.Author.Needs.{needs}
 use Rattle.steps.proofs.edges.look_at_edge.Statement.{statement}
@@ -22,15 +22,15 @@ see-behind-requires c κs = search needs
 
 returns : tie.Need-returns
 unfolding look-at-edge
-returns c = search steps
+returns c = search edge-ways
 
 returns-2 : tie.Need-returns-2
 unfolding look-at-edge
-returns-2 c = search steps
+returns-2 c = search edge-ways
 
 returns-3 : tie.Need-returns-3
 unfolding look-at-edge
-returns-3 c = search steps
+returns-3 c = search edge-ways
 
 pub look-at-edge-spec : {M : Type 1} → statement M
 look-at-edge-spec =

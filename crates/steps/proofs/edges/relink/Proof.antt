@@ -1,5 +1,5 @@
 -- Each way out is the case of the definition that its tests and reads choose. Assumes nothing.
-use Rattle.steps.proofs.Seen.{steps}
+use Rattle.steps.proofs.Seen.{edge-ways}
 use borrow.Author.Needs.{needs}
 use Rattle.steps.proofs.edges.relink.Statement.{statement}
 use Rattle.steps.proofs.edges.relink.Tie as tie
@@ -11,10 +11,10 @@ enum-known-p : tie.Need-enum-known-p
 enum-known-p c = search needs
 
 returns : tie.Need-returns
-returns c = search steps
+returns c = search edge-ways
 
 returns-2 : tie.Need-returns-2
-returns-2 c = search steps
+returns-2 c = search edge-ways
 
 pub relink-spec : {M : Type 1} → statement M
 relink-spec = tie.close (tie.spec enum-told enum-known-p returns returns-2)

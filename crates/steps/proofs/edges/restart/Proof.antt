@@ -1,5 +1,5 @@
 -- Each way out is the case of the definition that its tests and reads choose. Assumes nothing.
-use Rattle.steps.proofs.Seen.{steps}
+use Rattle.steps.proofs.Seen.{edge-ways}
 use Rattle.catalogue.specs.Steps.Edges.{restart}
 use borrow.Author.Needs.{needs}
 use Rattle.steps.proofs.edges.restart.Statement.{statement}
@@ -16,14 +16,14 @@ enum-told c = search needs
 
 returns : tie.Need-returns
 unfolding restart
-returns c = search steps
+returns c = search edge-ways
 
 edge-place-requires : tie.Need-edge-place-requires
 edge-place-requires c κs = search needs
 
 returns-2 : tie.Need-returns-2
 unfolding restart
-returns-2 c = search steps
+returns-2 c = search edge-ways
 
 pub restart-spec : {M : Type 1} → statement M
 restart-spec =

@@ -1,5 +1,5 @@
 -- Each way out is the case of the definition that its tests and reads choose. Assumes nothing.
-use Rattle.steps.proofs.Seen.{steps}
+use Rattle.steps.proofs.Seen.{edge-ways}
 use Rattle.catalogue.specs.Steps.Edges.{see-behind}
 use borrow.Author.Needs.{needs}
 use Rattle.steps.proofs.edges.see_behind.Statement.{statement}
@@ -16,26 +16,26 @@ enum-told c = search needs
 
 returns : tie.Need-returns
 unfolding see-behind
-returns c = search steps
+returns c = search edge-ways
 
 returns-2 : tie.Need-returns-2
 unfolding see-behind
-returns-2 c = search steps
+returns-2 c = search edge-ways
 
 see-edge-requires : tie.Need-see-edge-requires
 see-edge-requires c κs = search needs
 
 returns-3 : tie.Need-returns-3
 unfolding see-behind
-returns-3 c = search steps
+returns-3 c = search edge-ways
 
 returns-4 : tie.Need-returns-4
 unfolding see-behind
-returns-4 c = search steps
+returns-4 c = search edge-ways
 
 returns-5 : tie.Need-returns-5
 unfolding see-behind
-returns-5 c = search steps
+returns-5 c = search edge-ways
 
 pub see-behind-spec : {M : Type 1} → statement M
 see-behind-spec =

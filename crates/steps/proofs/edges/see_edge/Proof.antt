@@ -1,5 +1,5 @@
 -- Each way out is the case of the definition that its tests and reads choose. Assumes nothing.
-use Rattle.steps.proofs.Seen.{steps}
+use Rattle.steps.proofs.Seen.{edge-ways}
 use Rattle.catalogue.specs.Steps.Edges.{see-edge}
 use borrow.Author.Needs.{needs}
 use Rattle.steps.proofs.edges.see_edge.Statement.{statement}
@@ -10,7 +10,7 @@ see-key-requires c κs = search needs
 
 returns : tie.Need-returns
 unfolding see-edge
-returns c = search steps
+returns c = search edge-ways
 
 edge-link-requires : tie.Need-edge-link-requires
 edge-link-requires c κs = search needs
@@ -23,11 +23,11 @@ enum-told c = search needs
 
 returns-2 : tie.Need-returns-2
 unfolding see-edge
-returns-2 c = search steps
+returns-2 c = search edge-ways
 
 returns-3 : tie.Need-returns-3
 unfolding see-edge
-returns-3 c = search steps
+returns-3 c = search edge-ways
 
 edge-target-requires : tie.Need-edge-target-requires
 edge-target-requires c κs = search needs
@@ -40,7 +40,7 @@ enum-told-2 c = search needs
 
 returns-4 : tie.Need-returns-4
 unfolding see-edge
-returns-4 c = search steps
+returns-4 c = search edge-ways
 
 vertex-link-requires : tie.Need-vertex-link-requires
 vertex-link-requires c κs = search needs
@@ -53,25 +53,25 @@ enum-told-3 c = search needs
 
 returns-5 : tie.Need-returns-5
 unfolding see-edge
-returns-5 c = search steps depth 9
+returns-5 c = search edge-ways depth 9
 
 returns-6 : tie.Need-returns-6
 unfolding see-edge
-returns-6 c = search steps depth 9
+returns-6 c = search edge-ways depth 9
 
 see-key-requires-2 : tie.Need-see-key-requires-2
 see-key-requires-2 c κs = search needs
 
 returns-7 : tie.Need-returns-7
 unfolding see-edge
-returns-7 c = search steps depth 9
+returns-7 c = search edge-ways depth 9
 
 see-key-requires-3 : tie.Need-see-key-requires-3
 see-key-requires-3 c κs = search needs
 
 returns-8 : tie.Need-returns-8
 unfolding see-edge
-returns-8 c = search steps
+returns-8 c = search edge-ways
 
 pub see-edge-spec : {M : Type 1} → statement M
 see-edge-spec =

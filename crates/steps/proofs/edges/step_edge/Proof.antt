@@ -1,5 +1,5 @@
 -- Each way out is the case of the definition that its tests and reads choose. Assumes nothing.
-use Rattle.steps.proofs.Seen.{steps}
+use Rattle.steps.proofs.Seen.{edge-ways}
 use Rattle.catalogue.specs.Steps.Edges.{step-edge}
 use borrow.Author.Needs.{needs}
 use Rattle.steps.proofs.edges.step_edge.Statement.{statement}
@@ -49,31 +49,31 @@ settle-edge-requires c κs = search needs
 
 returns : tie.Need-returns
 unfolding step-edge
-returns c = search steps
+returns c = search edge-ways
 
 returns-2 : tie.Need-returns-2
 unfolding step-edge
-returns-2 c = search steps
+returns-2 c = search edge-ways
 
 returns-3 : tie.Need-returns-3
 unfolding step-edge
-returns-3 c = search steps
+returns-3 c = search edge-ways
 
 returns-4 : tie.Need-returns-4
 unfolding step-edge
-returns-4 c = search steps
+returns-4 c = search edge-ways
 
 returns-5 : tie.Need-returns-5
 unfolding step-edge
-returns-5 c = search steps
+returns-5 c = search edge-ways
 
 returns-6 : tie.Need-returns-6
 unfolding step-edge
-returns-6 c = search steps
+returns-6 c = search edge-ways
 
 returns-7 : tie.Need-returns-7
 unfolding step-edge
-returns-7 c = search steps
+returns-7 c = search edge-ways
 
 pub step-edge-spec : {M : Type 1} → statement M
 step-edge-spec =

@@ -1,5 +1,5 @@
 -- Each way out is the case of the definition that its tests and reads choose. Assumes nothing.
-use Rattle.steps.proofs.Seen.{steps}
+use Rattle.steps.proofs.Seen.{find-ways}
 use Rattle.catalogue.specs.Steps.Finding.{found-v}
 use borrow.Author.Needs.{needs}
 use Rattle.steps.proofs.finding.found_v.Statement.{statement}
@@ -16,14 +16,14 @@ enum-told c = search needs
 
 returns : tie.Need-returns
 unfolding found-v
-returns c = search steps
+returns c = search find-ways
 
 edges-place-requires : tie.Need-edges-place-requires
 edges-place-requires c κs = search needs
 
 returns-2 : tie.Need-returns-2
 unfolding found-v
-returns-2 c = search steps
+returns-2 c = search find-ways
 
 pub found-v-spec : {M : Type 1} → statement M
 found-v-spec =

@@ -1,5 +1,5 @@
 -- Each way out is the case of the definition that its tests and reads choose. Assumes nothing.
-use Rattle.steps.proofs.Seen.{steps}
+use Rattle.steps.proofs.Seen.{find-ways}
 use Rattle.catalogue.specs.Steps.Finding.{look-for}
 use borrow.Author.Needs.{needs}
 use Rattle.steps.proofs.finding.look_for.Statement.{statement}
@@ -19,11 +19,11 @@ enum-told c = search needs
 
 returns : tie.Need-returns
 unfolding look-for
-returns c = search steps
+returns c = search find-ways
 
 returns-2 : tie.Need-returns-2
 unfolding look-for
-returns-2 c = search steps
+returns-2 c = search find-ways
 
 vertex-link-requires-2 : tie.Need-vertex-link-requires-2
 vertex-link-requires-2 c κs = search needs
@@ -36,19 +36,19 @@ enum-told-2 c = search needs
 
 returns-3 : tie.Need-returns-3
 unfolding look-for
-returns-3 c = search steps
+returns-3 c = search find-ways
 
 returns-4 : tie.Need-returns-4
 unfolding look-for
-returns-4 c = search steps
+returns-4 c = search find-ways
 
 returns-5 : tie.Need-returns-5
 unfolding look-for
-returns-5 c = search steps
+returns-5 c = search find-ways
 
 returns-6 : tie.Need-returns-6
 unfolding look-for
-returns-6 c = search steps
+returns-6 c = search find-ways
 
 pub look-for-spec : {M : Type 1} → statement M
 look-for-spec =

@@ -1,5 +1,5 @@
 -- Each way out is the case of the definition that its tests and reads choose. Assumes nothing.
-use Rattle.steps.proofs.Seen.{steps}
+use Rattle.steps.proofs.Seen.{find-ways}
 use Rattle.catalogue.specs.Steps.Finding.{step-find-v}
 use borrow.Author.Needs.{needs}
 use Rattle.steps.proofs.finding.step_find_v.Statement.{statement}
@@ -31,19 +31,19 @@ not-found-requires c κs = search needs
 
 returns : tie.Need-returns
 unfolding step-find-v
-returns c = search steps
+returns c = search find-ways
 
 returns-2 : tie.Need-returns-2
 unfolding step-find-v
-returns-2 c = search steps
+returns-2 c = search find-ways
 
 returns-3 : tie.Need-returns-3
 unfolding step-find-v
-returns-3 c = search steps
+returns-3 c = search find-ways
 
 returns-4 : tie.Need-returns-4
 unfolding step-find-v
-returns-4 c = search steps
+returns-4 c = search find-ways
 
 pub step-find-v-spec : {M : Type 1} → statement M
 step-find-v-spec =

@@ -1,5 +1,5 @@
 -- Each way out is the case of the definition that its tests and reads choose. Assumes nothing.
-use Rattle.steps.proofs.Seen.{keys}
+use Rattle.steps.proofs.Seen.{key-ways}
 use Rattle.catalogue.specs.Steps.Places.{key-refused}
 use borrow.Author.Needs.{needs}
 use Rattle.steps.proofs.keys.key_refused.Statement.{statement}
@@ -10,18 +10,18 @@ reserved-requires c κs = search needs
 
 returns : tie.Need-returns
 unfolding key-refused
-returns c = search keys
+returns c = search key-ways
 
 returns-2 : tie.Need-returns-2
 unfolding key-refused
-returns-2 c = search keys
+returns-2 c = search key-ways
 
 reserved-requires-2 : tie.Need-reserved-requires-2
 reserved-requires-2 c κs = search needs
 
 returns-3 : tie.Need-returns-3
 unfolding key-refused
-returns-3 c = search keys
+returns-3 c = search key-ways
 
 pub key-refused-spec : {M : Type 1} → statement M
 key-refused-spec =

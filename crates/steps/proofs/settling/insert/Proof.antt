@@ -1,5 +1,5 @@
 -- Each way out is the case of the definition that its tests and reads choose. Assumes nothing.
-use Rattle.steps.proofs.Seen.{steps}
+use Rattle.steps.proofs.Seen.{settle-ways}
 use borrow.Author.Needs.{needs}
 use Rattle.steps.proofs.settling.insert.Statement.{statement}
 use Rattle.steps.proofs.settling.insert.Tie as tie
@@ -11,10 +11,10 @@ enum-known-p : tie.Need-enum-known-p
 enum-known-p c = search needs
 
 returns : tie.Need-returns
-returns c = search steps
+returns c = search settle-ways
 
 returns-2 : tie.Need-returns-2
-returns-2 c = search steps
+returns-2 c = search settle-ways
 
 pub insert-spec : {M : Type 1} → statement M
 insert-spec = tie.close (tie.spec enum-told enum-known-p returns returns-2)

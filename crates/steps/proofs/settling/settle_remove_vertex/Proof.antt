@@ -1,16 +1,16 @@
 -- Each way out is the case of the definition that its tests and reads choose. Assumes nothing.
-use Rattle.steps.proofs.Seen.{steps}
+use Rattle.steps.proofs.Seen.{settle-ways}
 use Rattle.catalogue.specs.Steps.Vertices.{settle-remove-vertex}
 use Rattle.steps.proofs.settling.settle_remove_vertex.Statement.{statement}
 use Rattle.steps.proofs.settling.settle_remove_vertex.Tie as tie
 
 returns : tie.Need-returns
 unfolding settle-remove-vertex
-returns c = search steps
+returns c = search settle-ways
 
 returns-2 : tie.Need-returns-2
 unfolding settle-remove-vertex
-returns-2 c = search steps
+returns-2 c = search settle-ways
 
 pub settle-remove-vertex-spec : {M : Type 1} → statement M
 settle-remove-vertex-spec = tie.close (tie.spec returns returns-2)

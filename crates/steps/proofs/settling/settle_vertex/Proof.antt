@@ -1,5 +1,5 @@
 -- Each way out is the case of the definition that its tests and reads choose. Assumes nothing.
-use Rattle.steps.proofs.Seen.{steps}
+use Rattle.steps.proofs.Seen.{settle-ways}
 use Rattle.catalogue.specs.Steps.Vertices.{settle-vertex}
 use borrow.Author.Needs.{needs}
 use Rattle.steps.proofs.settling.settle_vertex.Statement.{statement}
@@ -13,15 +13,15 @@ settle-remove-vertex-requires c κs = search needs
 
 returns : tie.Need-returns
 unfolding settle-vertex
-returns c = search steps
+returns c = search settle-ways
 
 returns-2 : tie.Need-returns-2
 unfolding settle-vertex
-returns-2 c = search steps
+returns-2 c = search settle-ways
 
 returns-3 : tie.Need-returns-3
 unfolding settle-vertex
-returns-3 c = search steps
+returns-3 c = search settle-ways
 
 pub settle-vertex-spec : {M : Type 1} → statement M
 settle-vertex-spec =

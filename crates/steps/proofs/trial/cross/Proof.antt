@@ -1,5 +1,5 @@
 -- Each way out is the case of the definition that its tests and reads choose. Assumes nothing.
-use Rattle.steps.proofs.Seen.{steps}
+use Rattle.steps.proofs.Seen.{trial-ways}
 use Rattle.catalogue.specs.Steps.Trial.{cross}
 use borrow.Author.Needs.{needs}
 use Rattle.steps.proofs.trial.cross.Statement.{statement}
@@ -16,26 +16,26 @@ enum-told c = search needs
 
 returns : tie.Need-returns
 unfolding cross
-returns c = search steps
+returns c = search trial-ways
 
 returns-2 : tie.Need-returns-2
 unfolding cross
-returns-2 c = search steps
+returns-2 c = search trial-ways
 
 met-has-requires : tie.Need-met-has-requires
 met-has-requires c κs = search needs
 
 returns-3 : tie.Need-returns-3
 unfolding cross
-returns-3 c = search steps depth 9
+returns-3 c = search trial-ways depth 9
 
 returns-4 : tie.Need-returns-4
 unfolding cross
-returns-4 c = search steps depth 9
+returns-4 c = search trial-ways depth 9
 
 returns-5 : tie.Need-returns-5
 unfolding cross
-returns-5 c = search steps depth 9
+returns-5 c = search trial-ways depth 9
 
 pub cross-spec : {M : Type 1} → statement M
 cross-spec =

@@ -1,5 +1,5 @@
 -- Each way out is the case of the definition that its tests and reads choose. Assumes nothing.
-use Rattle.steps.proofs.Seen.{steps}
+use Rattle.steps.proofs.Seen.{trial-ways}
 use Rattle.catalogue.specs.Steps.Trial.{end-trial}
 use borrow.Author.Needs.{needs}
 use Rattle.steps.proofs.trial.end_trial.Statement.{statement}
@@ -16,11 +16,11 @@ enum-told c = search needs
 
 returns : tie.Need-returns
 unfolding end-trial
-returns c = search steps
+returns c = search trial-ways
 
 returns-2 : tie.Need-returns-2
 unfolding end-trial
-returns-2 c = search steps
+returns-2 c = search trial-ways
 
 pub end-trial-spec : {M : Type 1} → statement M
 end-trial-spec =

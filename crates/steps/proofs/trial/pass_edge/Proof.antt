@@ -1,5 +1,5 @@
 -- Each way out is the case of the definition that its tests and reads choose. Assumes nothing.
-use Rattle.steps.proofs.Seen.{steps}
+use Rattle.steps.proofs.Seen.{trial-ways}
 use Rattle.catalogue.specs.Steps.Trial.{pass-edge}
 use borrow.Author.Needs.{needs}
 use Rattle.steps.proofs.trial.pass_edge.Statement.{statement}
@@ -16,15 +16,15 @@ enum-told c = search needs
 
 returns : tie.Need-returns
 unfolding pass-edge
-returns c = search steps
+returns c = search trial-ways
 
 returns-2 : tie.Need-returns-2
 unfolding pass-edge
-returns-2 c = search steps
+returns-2 c = search trial-ways
 
 edge-target-requires : tie.Need-edge-target-requires
 unfolding pass-edge
-edge-target-requires c κs = search steps
+edge-target-requires c κs = search trial-ways
 
 enum-known-vertex : tie.Need-enum-known-vertex
 enum-known-vertex c = search needs
@@ -34,14 +34,14 @@ enum-told-2 c = search needs
 
 returns-3 : tie.Need-returns-3
 unfolding pass-edge
-returns-3 c = search steps
+returns-3 c = search trial-ways
 
 cross-requires : tie.Need-cross-requires
 cross-requires c κs = search needs
 
 returns-4 : tie.Need-returns-4
 unfolding pass-edge
-returns-4 c = search steps
+returns-4 c = search trial-ways
 
 pub pass-edge-spec : {M : Type 1} → statement M
 pass-edge-spec =

@@ -1,5 +1,5 @@
 -- Each way out is the case of the definition that its tests and reads choose. Assumes nothing.
-use Rattle.steps.proofs.Seen.{steps}
+use Rattle.steps.proofs.Seen.{trial-ways}
 use Rattle.catalogue.specs.Steps.Trial.{see-trial, ends-fit}
 use borrow.Author.Needs.{needs}
 use Rattle.steps.proofs.trial.see_trial.Statement.{statement}
@@ -10,15 +10,15 @@ see-both-requires c κs = search needs
 
 returns : tie.Need-returns
 unfolding see-trial ends-fit
-returns c = search steps
+returns c = search trial-ways
 
 returns-2 : tie.Need-returns-2
 unfolding see-trial ends-fit
-returns-2 c = search steps
+returns-2 c = search trial-ways
 
 returns-3 : tie.Need-returns-3
 unfolding see-trial ends-fit
-returns-3 c = search steps
+returns-3 c = search trial-ways
 
 pub see-trial-spec : {M : Type 1} → statement M
 see-trial-spec = tie.close (tie.spec see-both-requires returns returns-2 returns-3)

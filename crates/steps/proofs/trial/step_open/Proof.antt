@@ -1,5 +1,5 @@
 -- Each way out is the case of the definition that its tests and reads choose. Assumes nothing.
-use Rattle.steps.proofs.Seen.{steps}
+use Rattle.steps.proofs.Seen.{trial-ways}
 use Rattle.catalogue.specs.Steps.Trial.{step-open}
 use borrow.Author.Needs.{needs}
 use Rattle.steps.proofs.trial.step_open.Statement.{statement}
@@ -16,22 +16,22 @@ enum-told c = search needs
 
 returns : tie.Need-returns
 unfolding step-open
-returns c = search steps
+returns c = search trial-ways
 
 returns-2 : tie.Need-returns-2
 unfolding step-open
-returns-2 c = search steps
+returns-2 c = search trial-ways
 
 returns-3 : tie.Need-returns-3
 unfolding step-open
-returns-3 c = search steps
+returns-3 c = search trial-ways
 
 pass-edge-requires : tie.Need-pass-edge-requires
 pass-edge-requires c κs = search needs
 
 returns-4 : tie.Need-returns-4
 unfolding step-open
-returns-4 c = search steps
+returns-4 c = search trial-ways
 
 pub step-open-spec : {M : Type 1} → statement M
 step-open-spec =

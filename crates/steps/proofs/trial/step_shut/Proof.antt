@@ -1,5 +1,5 @@
 -- Each way out is the case of the definition that its tests and reads choose. Assumes nothing.
-use Rattle.steps.proofs.Seen.{steps}
+use Rattle.steps.proofs.Seen.{trial-ways}
 use Rattle.catalogue.specs.Steps.Trial.{step-shut}
 use borrow.Author.Needs.{needs}
 use Rattle.steps.proofs.trial.step_shut.Statement.{statement}
@@ -10,14 +10,14 @@ end-trial-requires c κs = search needs
 
 returns : tie.Need-returns
 unfolding step-shut
-returns c = search steps
+returns c = search trial-ways
 
 take-front-requires : tie.Need-take-front-requires
 take-front-requires c κs = search needs
 
 returns-2 : tie.Need-returns-2
 unfolding step-shut
-returns-2 c = search steps
+returns-2 c = search trial-ways
 
 pub step-shut-spec : {M : Type 1} → statement M
 step-shut-spec = tie.close (tie.spec end-trial-requires returns take-front-requires returns-2)

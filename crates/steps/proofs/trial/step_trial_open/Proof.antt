@@ -1,5 +1,5 @@
 -- Each way out is the case of the definition that its tests and reads choose. Assumes nothing.
-use Rattle.steps.proofs.Seen.{steps}
+use Rattle.steps.proofs.Seen.{trial-ways}
 use Rattle.catalogue.specs.Steps.Trial.{trial-open}
 use borrow.Author.Needs.{needs}
 use Rattle.steps.proofs.trial.step_trial_open.Statement.{statement}
@@ -25,15 +25,15 @@ step-open-requires c κs = search needs
 
 returns : tie.Need-returns
 unfolding trial-open
-returns c = search steps
+returns c = search trial-ways
 
 returns-2 : tie.Need-returns-2
 unfolding trial-open
-returns-2 c = search steps
+returns-2 c = search trial-ways
 
 returns-3 : tie.Need-returns-3
 unfolding trial-open
-returns-3 c = search steps
+returns-3 c = search trial-ways
 
 pub step-trial-open-spec : {M : Type 1} → statement M
 step-trial-open-spec =

@@ -1,5 +1,5 @@
 -- Each way out is the case of the definition that its tests and reads choose. Assumes nothing.
-use Rattle.steps.proofs.Seen.{steps}
+use Rattle.steps.proofs.Seen.{trial-ways}
 use Rattle.catalogue.specs.Steps.Trial.{take-front}
 use borrow.Author.Needs.{needs}
 use Rattle.steps.proofs.trial.take_front.Statement.{statement}
@@ -10,7 +10,7 @@ end-trial-requires c κs = search needs
 
 returns : tie.Need-returns
 unfolding take-front
-returns c = search steps
+returns c = search trial-ways
 
 vertex-link-requires : tie.Need-vertex-link-requires
 vertex-link-requires c κs = search needs
@@ -23,11 +23,11 @@ enum-told c = search needs
 
 returns-2 : tie.Need-returns-2
 unfolding take-front
-returns-2 c = search steps
+returns-2 c = search trial-ways
 
 returns-3 : tie.Need-returns-3
 unfolding take-front
-returns-3 c = search steps
+returns-3 c = search trial-ways
 
 first-link-requires : tie.Need-first-link-requires
 first-link-requires c κs = search needs
@@ -40,11 +40,11 @@ enum-told-2 c = search needs
 
 returns-4 : tie.Need-returns-4
 unfolding take-front
-returns-4 c = search steps
+returns-4 c = search trial-ways
 
 returns-5 : tie.Need-returns-5
 unfolding take-front
-returns-5 c = search steps
+returns-5 c = search trial-ways
 
 pub take-front-spec : {M : Type 1} → statement M
 take-front-spec =

@@ -1,5 +1,5 @@
 -- Each way out is the case of the definition that its tests and reads choose. Assumes nothing.
-use Rattle.steps.proofs.Seen.{steps}
+use Rattle.steps.proofs.Seen.{vertex-ways}
 use Rattle.catalogue.specs.Steps.Vertices.{look-at-vertex}
 use borrow.Author.Needs.{needs}
 use Rattle.steps.proofs.vertices.look_at_vertex.Statement.{statement}
@@ -7,7 +7,7 @@ use Rattle.steps.proofs.vertices.look_at_vertex.Tie as tie
 
 returns : tie.Need-returns
 unfolding look-at-vertex
-returns c = search steps
+returns c = search vertex-ways
 
 vertex-link-requires : tie.Need-vertex-link-requires
 vertex-link-requires c κs = search needs
@@ -20,22 +20,22 @@ enum-told c = search needs
 
 returns-2 : tie.Need-returns-2
 unfolding look-at-vertex
-returns-2 c = search steps
+returns-2 c = search vertex-ways
 
 see-vertex-requires : tie.Need-see-vertex-requires
 see-vertex-requires c κs = search needs
 
 returns-3 : tie.Need-returns-3
 unfolding look-at-vertex
-returns-3 c = search steps
+returns-3 c = search vertex-ways
 
 returns-4 : tie.Need-returns-4
 unfolding look-at-vertex
-returns-4 c = search steps
+returns-4 c = search vertex-ways
 
 returns-5 : tie.Need-returns-5
 unfolding look-at-vertex
-returns-5 c = search steps
+returns-5 c = search vertex-ways
 
 pub look-at-vertex-spec : {M : Type 1} → statement M
 look-at-vertex-spec =

@@ -1,5 +1,5 @@
 -- Each way out is the case of the definition that its tests and reads choose. Assumes nothing.
-use Rattle.steps.proofs.Seen.{steps}
+use Rattle.steps.proofs.Seen.{vertex-ways}
 use Rattle.catalogue.specs.Steps.Vertices.{see-vertex}
 use borrow.Author.Needs.{needs}
 use Rattle.steps.proofs.vertices.see_vertex.Statement.{statement}
@@ -16,26 +16,26 @@ enum-told c = search needs
 
 returns : tie.Need-returns
 unfolding see-vertex
-returns c = search steps
+returns c = search vertex-ways
 
 returns-2 : tie.Need-returns-2
 unfolding see-vertex
-returns-2 c = search steps
+returns-2 c = search vertex-ways
 
 vertex-key-requires : tie.Need-vertex-key-requires
 vertex-key-requires c κs = search needs
 
 returns-3 : tie.Need-returns-3
 unfolding see-vertex
-returns-3 c = search steps
+returns-3 c = search vertex-ways
 
 returns-4 : tie.Need-returns-4
 unfolding see-vertex
-returns-4 c = search steps
+returns-4 c = search vertex-ways
 
 returns-5 : tie.Need-returns-5
 unfolding see-vertex
-returns-5 c = search steps
+returns-5 c = search vertex-ways
 
 pub see-vertex-spec : {M : Type 1} → statement M
 see-vertex-spec =

@@ -1,5 +1,5 @@
 -- Each way out is the case of the definition that its tests and reads choose. Assumes nothing.
-use Rattle.steps.proofs.Seen.{steps}
+use Rattle.steps.proofs.Seen.{vertex-ways}
 use Rattle.catalogue.specs.Steps.Vertices.{start-again}
 use borrow.Author.Needs.{needs}
 use Rattle.steps.proofs.vertices.start_again.Statement.{statement}
@@ -16,14 +16,14 @@ enum-told c = search needs
 
 returns : tie.Need-returns
 unfolding start-again
-returns c = search steps
+returns c = search vertex-ways
 
 vertex-place-requires : tie.Need-vertex-place-requires
 vertex-place-requires c κs = search needs
 
 returns-2 : tie.Need-returns-2
 unfolding start-again
-returns-2 c = search steps
+returns-2 c = search vertex-ways
 
 pub start-again-spec : {M : Type 1} → statement M
 start-again-spec =

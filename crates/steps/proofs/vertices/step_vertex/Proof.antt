@@ -1,5 +1,5 @@
 -- Each way out is the case of the definition that its tests and reads choose. Assumes nothing.
-use Rattle.steps.proofs.Seen.{steps}
+use Rattle.steps.proofs.Seen.{vertex-ways}
 use Rattle.catalogue.specs.Steps.Vertices.{step-vertex}
 use borrow.Author.Needs.{needs}
 use Rattle.steps.proofs.vertices.step_vertex.Statement.{statement}
@@ -37,23 +37,23 @@ settle-vertex-requires c κs = search needs
 
 returns : tie.Need-returns
 unfolding step-vertex
-returns c = search steps
+returns c = search vertex-ways
 
 returns-2 : tie.Need-returns-2
 unfolding step-vertex
-returns-2 c = search steps
+returns-2 c = search vertex-ways
 
 returns-3 : tie.Need-returns-3
 unfolding step-vertex
-returns-3 c = search steps
+returns-3 c = search vertex-ways
 
 returns-4 : tie.Need-returns-4
 unfolding step-vertex
-returns-4 c = search steps
+returns-4 c = search vertex-ways
 
 returns-5 : tie.Need-returns-5
 unfolding step-vertex
-returns-5 c = search steps
+returns-5 c = search vertex-ways
 
 pub step-vertex-spec : {M : Type 1} → statement M
 step-vertex-spec =
