@@ -52,7 +52,7 @@ pub fn edges_place(code: u32, k: i32, l: i32, u: u8, v: u8, c: u16) -> Place
     }
 }
 
-// Taking up: c is the head's next.
+// Taking up: c is the head's next. Another code has no place: it is refused as CODE before.
 pub fn first_place(code: u32, k: i32, l: i32, c: u8) -> Place
     ensures { λ r. ⌜ r ≡ first-place code k l c ⌝ }
 {
@@ -62,6 +62,7 @@ pub fn first_place(code: u32, k: i32, l: i32, c: u8) -> Place
         3 => Place::ConV { k, c },
         4 => Place::AddEFindU { k, l, c },
         5 => Place::RemEFindU { k, l, c },
-        _ => Place::ConEFindU { k, l, c },
+        6 => Place::ConEFindU { k, l, c },
+        _ => Place::Idle,
     }
 }

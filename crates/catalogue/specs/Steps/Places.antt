@@ -8,7 +8,7 @@ use Rattle.catalogue.specs.Numbers.{head, reserved}
 use Rattle.catalogue.specs.declared.workers.Prev.{Prev}
 use Rattle.catalogue.specs.declared.workers.Prev.the-variants.{First}
 use Rattle.catalogue.specs.declared.workers.Place.{Place}
-use Rattle.catalogue.specs.declared.workers.Place.the-variants.{AddV, RemV, ConV, AddEFindU, RemEFindU, ConEFindU, AddEFindV, RemEFindV, ConEFindV, AddE, RemE, ConE}
+use Rattle.catalogue.specs.declared.workers.Place.the-variants.{Idle, AddV, RemV, ConV, AddEFindU, RemEFindU, ConEFindU, AddEFindV, RemEFindV, ConEFindV, AddE, RemE, ConE}
 
 -- First paragraph: the six codes, and how many keys each reads.
 abbrev pub code-known : ℕ → Bool
@@ -40,10 +40,12 @@ edge-place code k l u v p c = pick (eqb code 4) (AddE k l u v p c) (RemE k l u v
 unfoldable pub edges-place : ℕ → ℤ → ℤ → ℕ → ℕ → ℕ → Place
 edges-place code k l u v c = pick (eqb code 6) (ConE k l u v c) (edge-place code k l u v First c)
 
--- "Taking up" goes by the code: p is the head and c its next.
+-- "Taking up" goes by the code: p is the head and c its next. No call has another code, which is refused as CODE before.
 unfoldable pub first-place : ℕ → ℤ → ℤ → ℕ → Place
 first-place code k l c =
     pick (eqb code 1) (AddV k head c)
     (pick (eqb code 2) (RemV k head c)
     (pick (eqb code 3) (ConV k c)
-    (pick (eqb code 4) (AddEFindU k l c) (pick (eqb code 5) (RemEFindU k l c) (ConEFindU k l c)))))
+    (pick (eqb code 4) (AddEFindU k l c)
+    (pick (eqb code 5) (RemEFindU k l c)
+    (pick (eqb code 6) (ConEFindU k l c) Idle)))))

@@ -26,7 +26,12 @@ returns-5 c = search place-ways
 
 returns-6 : tie.Need-returns-6
 unfolding first-place
-returns-6 c = search place-ways
+returns-6 c = search place-ways depth 9
+
+returns-7 : tie.Need-returns-7
+unfolding first-place
+returns-7 c = search place-ways depth 9
 
 pub first-place-spec : {M : Type 1} → statement M
-first-place-spec = tie.close (tie.spec returns returns-2 returns-3 returns-4 returns-5 returns-6)
+first-place-spec =
+    tie.close (tie.spec returns returns-2 returns-3 returns-4 returns-5 returns-6 returns-7)
