@@ -1,8 +1,8 @@
 -- The outcome of a call, by the checks on the way: what each check says of the definition, and what it gives the checks after it. Assumes nothing.
-use Prim.Native.Nat.{ℕ, _<_, _≤_}
+use Prim.Native.Nat.{ℕ, _<_}
 use mathlib.Core.Bool.{Bool, true, false}
 use mathlib.Core.List.{List}
-use mathlib.Core.Path.{_≡_, refl, sym, _∙_, ap, ap₂, subst}
+use mathlib.Core.Path.{_≡_, refl, sym, _∙_, ap, ap₂}
 use native.Mathlib.Omega.{arith}
 use borrow.Author.Tests.{leb-true, ltb-true, eqb-true}
 use mir.Facts.{toZ-ofZ}
@@ -10,12 +10,12 @@ use borrow.Author.Needs.{sfits-of}
 use lib.IntN.{ℤ}
 use lib.ListN.{length}
 use lib.Dec.{eqb, leb, ltb}
-use Rattle.catalogue.specs.Tests.{pick}
-use Rattle.catalogue.specs.Catalogue.{Catalogue, at-vertex}
+use Rattle.catalogue.specs.Tests.{pick, one-to}
+use Rattle.catalogue.specs.Catalogue.{at-vertex}
 use Rattle.catalogue.specs.Workers.{busy-at, worker-at, bare, put}
 use Rattle.catalogue.specs.Calls.{After, count-fits, worker-fits, start-up, take-up}
 use Rattle.catalogue.specs.Lent.{Memory, Sized, keys-size, words-size, memory-of, view, sized, outcome-of, refused, lent-take-up}
-use Rattle.catalogue.specs.Steps.Places.{code-known, key-refused, first-place}
+use Rattle.catalogue.specs.Steps.Places.{key-refused, first-place}
 use Rattle.catalogue.specs.declared.answers.Answer.the-variants.{Going}
 use Rattle.catalogue.specs.declared.answers.Outcome.{Outcome}
 use Rattle.catalogue.specs.declared.answers.Refusal.the-variants as refusal
@@ -24,7 +24,7 @@ use Rattle.catalogue.specs.declared.links.VertexLink.the-variants as vertex
 use Rattle.catalogue.specs.declared.workers.Place.{Place}
 use Rattle.catalogue.specs.declared.workers.Table.{Table}
 use Rattle.catalogue.specs.declared.workers.Worker.{Worker}
-use Rattle.catalogue.proofs.Picks.{clash, pick-both}
+use Rattle.catalogue.proofs.Picks.{clash}
 use Rattle.catalogue.proofs.Ways.{ways}
 
 -- ---- what the checks give
@@ -43,7 +43,7 @@ sized-is m e =
 pub worker-below : (count w : ℕ) → worker-fits count w ≡ true → w < 8
 unfolding worker-fits count-fits
 worker-below count w e =
-    let h = both-true (pick (leb 1 count) (leb count 8) false) (ltb w count) e in
+    let h = both-true (one-to 8 count) (ltb w count) e in
     let g = both-true (leb 1 count) (leb count 8) (h .0) in
     omega (arith, leb-true count 8 (g .1), ltb-true w count (h .1))
 
@@ -59,17 +59,14 @@ below-flag count w r e q = worker-below count w (sym e ∙ q)
 flag : (a r t : Bool) → r ≡ a → r ≡ t → a ≡ t
 flag a r t e q = sym e ∙ q
 
-pub count-flag : (count : ℕ) (r t : Bool) → r ≡ count-fits count → r ≡ t → count-fits count ≡ t
-count-flag count = flag (count-fits count)
+pub range-flag : (most n : ℕ) (r t : Bool) → r ≡ one-to most n → r ≡ t → one-to most n ≡ t
+range-flag most n = flag (one-to most n)
 
 pub worker-flag : (count w : ℕ) (r t : Bool) → r ≡ worker-fits count w → r ≡ t → worker-fits count w ≡ t
 worker-flag count w = flag (worker-fits count w)
 
 pub size-flag : (m : Memory) (r t : Bool) → r ≡ sized m → r ≡ t → sized m ≡ t
 size-flag m = flag (sized m)
-
-pub code-flag : (code : ℕ) (r t : Bool) → r ≡ code-known code → r ≡ t → code-known code ≡ t
-code-flag code = flag (code-known code)
 
 pub key-flag : (code : ℕ) (k l k′ l′ : ℤ) (r t : Bool) → r ≡ key-refused code k′ l′ → k′ ≡ k → l′ ≡ l → r ≡ t → key-refused code k l ≡ t
 key-flag code k l k′ l′ r t e a b q = ap₂ (key-refused code) (sym a) (sym b) ∙ sym e ∙ q
@@ -100,7 +97,7 @@ started t after n code k l k′ l′ next place w e f g a b =
     ap (λ (t : Table). record { table = t; answer = Going 0 })
     (e ∙ ap (put t n) (f ∙ ap bare (g ∙ ap₂ (λ (k l : ℤ). first-place code k l next) a b)))
 
-pub ruleset flags = (count-flag, worker-flag, size-flag, code-flag, key-flag, busy-flag, toZ-ofZ, sfits-of)
+pub ruleset flags = (range-flag, worker-flag, size-flag, key-flag, busy-flag, toZ-ofZ, sfits-of)
 
 pub ruleset checks = (ways, flags)
 

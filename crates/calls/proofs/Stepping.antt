@@ -1,6 +1,6 @@
 -- One step: of a record, and of a worker of a table. Assumes nothing.
 use Prim.Native.Nat.{ℕ}
-use mathlib.Core.Bool.{Bool, true, false}
+use mathlib.Core.Bool.{true, false}
 use mathlib.Core.List.{List}
 use mathlib.Core.Path.{_≡_, refl, sym, _∙_, ap, subst}
 use lib.IntN.{ℤ}

@@ -1,8 +1,8 @@
 // The checks that the calls share, and a refusal.
 ghost use mathlib.Core.Path.{_≡_};
-ghost use Rattle.catalogue.specs.Calls.{count-fits, worker-fits};
+ghost use Rattle.catalogue.specs.Tests.{one-to};
+ghost use Rattle.catalogue.specs.Calls.{worker-fits};
 ghost use Rattle.catalogue.specs.Lent.{memory-of, sized, refused};
-ghost use Rattle.catalogue.specs.Steps.Places.{code-known};
 use catalogue::answers::Answer;
 use catalogue::answers::Outcome;
 use catalogue::answers::Refusal;
@@ -33,12 +33,12 @@ pub fn sized(keys: &[i32], words: &[u32]) -> bool
     false
 }
 
-// 21: the count is 1 to 8.
-pub fn count_fits(count: u32) -> bool
-    ensures { λ r. ⌜ r ≡ count-fits count ⌝ }
+// A number is 1 to another: a count of workers (21), a code (24).
+pub fn one_to(most: u32, n: u32) -> bool
+    ensures { λ r. ⌜ r ≡ one-to most n ⌝ }
 {
-    if 1 <= count {
-        if count <= 8 {
+    if 1 <= n {
+        if n <= most {
             return true;
         }
         return false;
@@ -50,21 +50,8 @@ pub fn count_fits(count: u32) -> bool
 pub fn worker_fits(count: u32, worker: u32) -> bool
     ensures { λ r. ⌜ r ≡ worker-fits count worker ⌝ }
 {
-    if count_fits(count) {
+    if one_to(8, count) {
         if worker < count {
-            return true;
-        }
-        return false;
-    }
-    false
-}
-
-// 24: the six codes.
-pub fn code_known(code: u32) -> bool
-    ensures { λ r. ⌜ r ≡ code-known code ⌝ }
-{
-    if 1 <= code {
-        if code <= 6 {
             return true;
         }
         return false;

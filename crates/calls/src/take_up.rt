@@ -4,7 +4,7 @@ ghost use Prim.Native.Nat.{_<_};
 ghost use Rattle.catalogue.specs.Calls.{start-up};
 ghost use Rattle.catalogue.specs.Lent.{Sized, memory-of, catalogue-in, outcome-of};
 ghost use Rattle.calls.specs.Promised.{Takes-up};
-use crate::checks::code_known;
+use crate::checks::one_to;
 use crate::checks::refuse;
 use crate::checks::sized;
 use crate::checks::worker_fits;
@@ -35,7 +35,7 @@ fn start_up(
     requires { ⌜ at < 8 ⌝ }
     ensures { λ r. ⌜ r ≡ outcome-of (start-up (catalogue-in (now (keys .entry)) (now (words .entry))) table at code k l) ⌝ }
 {
-    if code_known(code) {
+    if one_to(6, code) {
         if key_refused(code, k, l) {
             return refuse(table, Refusal::Key);
         }

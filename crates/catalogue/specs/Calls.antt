@@ -1,9 +1,9 @@
 -- Document 01, "Replies and refusals" and "The steps": taking up and a step, on a catalogue and a table, with the refusals 21 to 26 in their order.
 use Prim.Native.Nat.{ℕ}
-use mathlib.Core.Bool.{Bool, true, false}
+use mathlib.Core.Bool.{Bool, false}
 use lib.IntN.{ℤ}
-use lib.Dec.{ltb, leb}
-use Rattle.catalogue.specs.Tests.{pick}
+use lib.Dec.{ltb}
+use Rattle.catalogue.specs.Tests.{pick, one-to}
 use Rattle.catalogue.specs.Numbers.{most-workers, head}
 use Rattle.catalogue.specs.Catalogue.{Catalogue, vertex-link, at-vertex}
 use Rattle.catalogue.specs.Writes.{commit}
@@ -30,7 +30,7 @@ refuse C t r = record { catalogue = C; table = t; answer = Refused r }
 
 -- 21: a count that is not 1 to 8.
 unfoldable pub count-fits : ℕ → Bool
-count-fits count = pick (leb 1 count) (leb count most-workers) false
+count-fits count = one-to most-workers count
 
 -- 21: the count, then the worker's number.
 unfoldable pub worker-fits : ℕ → ℕ → Bool

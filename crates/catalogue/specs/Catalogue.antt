@@ -1,12 +1,8 @@
 -- Document 01, "Numbers", paragraph 2: the catalogue, the fresh one, and what is read in it.
-use Prim.Native.Nat.{ℕ, _+_}
-use mathlib.Core.Bool.{Bool, true, false}
-use mathlib.Core.List.{List, _++_, []}
-use mathlib.Core.List.{_∷_}
+use Prim.Native.Nat.{ℕ}
 use lib.IntN.{ℤ, pos}
-use lib.ListN.{getD}
 use lib.Dec.{ltb, eqb}
-use Rattle.catalogue.specs.Tests.{pick, upd, table-from}
+use Rattle.catalogue.specs.Tests.{pick, upd}
 use Rattle.catalogue.specs.Numbers.{vertex-pool, head, tail, edge-pool, edge-tail, least, greatest, plain, marked, vertex-tag, first-tag, edge-tag, link, apart}
 use Rattle.catalogue.specs.declared.links.VertexLink.{VertexLink}
 use Rattle.catalogue.specs.declared.links.VertexLink.the-variants as vertex

@@ -2,9 +2,9 @@
 -- A catalogue is lent as two runs of numbers. The keys: 256 of vertices, then 2,048 of edges. The words: the two counts handed out, 256 vertex links,
 -- 256 first-edge links, 2,048 edge targets, 2,048 edge links.
 use Prim.Native.Nat.{ℕ, _+_}
-use mathlib.Core.Bool.{Bool, true, false}
+use mathlib.Core.Bool.{Bool, false}
 use mathlib.Core.Path.{_≡_}
-use mathlib.Core.List.{List, [], _∷_, _++_}
+use mathlib.Core.List.{List, _∷_, _++_}
 use lib.IntN.{ℤ, pos}
 use lib.ListN.{length, getD}
 use lib.Dec.{eqb, leb}

@@ -1,6 +1,5 @@
 -- Document 01, "Sweep and listing", the paragraph on output; a listing called alone, and its refusal 26.
 use Prim.Native.Nat.{ℕ}
-use mathlib.Core.Bool.{Bool, true, false}
 use mathlib.Core.List.{List, [], _∷_, _++_, map}
 use lib.IntN.{ℤ, pos}
 use lib.ListN.{length, drop}

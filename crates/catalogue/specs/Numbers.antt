@@ -1,6 +1,6 @@
 -- Document 01, "Numbers": workers, pools, keys, links and tags.
 use Prim.Native.Nat.{ℕ, _+_, _*_, _/_, _%_}
-use mathlib.Core.Bool.{Bool, true, false}
+use mathlib.Core.Bool.{Bool, true}
 use lib.IntN.{ℤ, pos, negsuc}
 use lib.Dec.{ltb, leb, eqb}
 use Rattle.catalogue.specs.Tests.{pick, eqZ}

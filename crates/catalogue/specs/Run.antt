@@ -1,12 +1,11 @@
 -- Document 01, "Sweep and listing", the last sentence on scripts, and the output: running a script from the fresh catalogue.
-use Prim.Native.Nat.{ℕ, suc, _+_}
-use mathlib.Core.Bool.{Bool, true, false}
+use Prim.Native.Nat.{ℕ, suc}
 use mathlib.Core.List.{List, [], _∷_, _++_}
 use lib.ListN.{length, getD, set, take, drop}
 use Rattle.catalogue.specs.Tests.{pick}
 use Rattle.catalogue.specs.Catalogue.{Catalogue, fresh}
 use Rattle.catalogue.specs.Workers.{worker-at, busy, idle-table, request-of}
-use Rattle.catalogue.specs.Calls.{After, take-up, step}
+use Rattle.catalogue.specs.Calls.{take-up, step}
 use Rattle.catalogue.specs.Listing.{Reply-line, result-text}
 use Rattle.catalogue.specs.Script.{Script}
 use Rattle.catalogue.specs.declared.workers.Table.{Table}

@@ -1,16 +1,16 @@
 -- Document 01, "Sweep and listing", the paragraph on scripts: how a script is written, and how it is read, with the first bad line.
 use Prim.Native.Nat.{ℕ, zero, suc, _+_, _*_, _-_}
-use mathlib.Core.Bool.{Bool, true, false}
+use mathlib.Core.Bool.{Bool, false}
 use mathlib.Core.List.{List, [], _∷_, _++_, map}
 use mathlib.Core.Option.{Option, none, some}
 use lib.IntN.{ℤ, pos, negsuc}
 use lib.ListN.{length}
 use lib.Signed.{ltZ}
 use lib.Dec.{eqb, leb, ltb}
-use Rattle.catalogue.specs.Tests.{pick, given, every}
+use Rattle.catalogue.specs.Tests.{pick, one-to, given, every}
 use Rattle.catalogue.specs.Numbers.{least, greatest, most-workers}
 use Rattle.catalogue.specs.Text.{line-end, space, minus, zero-digit, lines}
-use Rattle.catalogue.specs.Steps.Places.{code-known, one-key, key-refused}
+use Rattle.catalogue.specs.Steps.Places.{code-known, one-key}
 use Rattle.catalogue.specs.declared.workers.Request.{Request}
 
 -- A script: how many requests each worker has, all requests, worker 0's first, and the schedule.
@@ -106,10 +106,8 @@ pub record Header : Type 0 where
 
 abbrev pub header-fits : ℕ → List ℕ → ℕ → Bool
 header-fits workers counts turns =
-    pick (leb 1 workers)
-    (pick (leb workers most-workers)
+    pick (one-to most-workers workers)
     (pick (eqb (length counts) workers) (pick (leb (sum counts) most-requests) (leb turns most-turns) false) false)
-    false)
     false
 
 abbrev pub header-of : List ℕ → Option Header

@@ -1,8 +1,7 @@
 -- Document 01, "Sweep and listing", first paragraph: a sound catalogue.
 use Prim.Native.Nat.{ℕ}
 use mathlib.Core.Bool.{Bool, true, false}
-use mathlib.Core.List.{List, _∷_}
-use lib.IntN.{ℤ}
+use mathlib.Core.List.{_∷_}
 use lib.ListN.{length}
 use lib.Signed.{ltZ}
 use lib.Dec.{eqb, leb}

@@ -4,12 +4,16 @@ use mathlib.Core.Bool.{Bool, true, false}
 use mathlib.Core.List.{List, [], _∷_}
 use mathlib.Core.Option.{Option, none, some}
 use lib.IntN.{ℤ, pos, negsuc}
-use lib.Dec.{eqb}
+use lib.Dec.{eqb, leb}
 
 -- the first of two where the test holds, else the second
 abbrev pub pick : {A : Type 0} → Bool → A → A → A
 pick true a b = a
 pick false a b = b
+
+-- a number is 1 to another
+abbrev pub one-to : ℕ → ℕ → Bool
+one-to most n = pick (leb 1 n) (leb n most) false
 
 -- two signed numbers are equal
 unfoldable pub eqZ : ℤ → ℤ → Bool

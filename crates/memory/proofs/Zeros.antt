@@ -9,9 +9,8 @@ use lib.Dec.{lit<}
 use borrow.Author.Tests.{eq-eqb, ne-eqb}
 use Rattle.catalogue.specs.Numbers.{link, least, head, tail, plain}
 use Rattle.catalogue.specs.Catalogue.{Catalogue, fresh}
-use Rattle.catalogue.specs.Lent.{Memory, Lent-made, lay, sized, lent-fresh, keys-size, words-size}
+use Rattle.catalogue.specs.Lent.{Memory, lay, sized, lent-fresh, keys-size, words-size}
 use Rattle.catalogue.specs.declared.answers.Refusal.the-variants as refusal
-use Rattle.catalogue.specs.declared.answers.Made.{Made}
 use Rattle.catalogue.specs.declared.answers.Made.the-variants as made
 use Rattle.memory.specs.Promised.{Makes-fresh}
 use Rattle.memory.specs.Memories.{Hold}

@@ -1,8 +1,7 @@
 -- Every decision that is made of a record can be carried out on it: `decide-follows`. One lemma for each definition, by its cases. Assumes nothing.
-use Prim.Native.Nat.{ℕ, _+_, _<_, _≤_}
+use Prim.Native.Nat.{ℕ, _<_, _≤_}
 use mathlib.Core.Bool.{Bool, true, false}
-use mathlib.Core.List.{List}
-use mathlib.Core.Path.{_≡_, refl, sym, _∙_}
+use mathlib.Core.Path.{_≡_, refl}
 use native.Mathlib.Omega.{arith}
 use borrow.Author.Tests.{ltb-true, leb-true, leb-false, eqb-false}
 use lib.IntN.{ℤ}
@@ -10,7 +9,7 @@ use lib.Signed.{ltZ}
 use lib.Dec.{eqb, leb, ltb}
 use Rattle.catalogue.specs.Tests.{pick, eqZ}
 use Rattle.catalogue.specs.Numbers.{room, head, edge-pool}
-use Rattle.catalogue.specs.Catalogue.{Catalogue, vertex-key, vertex-link, first-link, edge-key, edge-link, edge-target, at-mark}
+use Rattle.catalogue.specs.Catalogue.{Catalogue, vertex-link, first-link, edge-key, edge-link, edge-target, at-mark}
 use Rattle.catalogue.specs.Workers.{has, request-of, front-of}
 use Rattle.catalogue.specs.Steps.Places.{key-refused}
 use Rattle.catalogue.specs.Steps.Both.{see-both, at-both}
@@ -21,7 +20,6 @@ use Rattle.catalogue.specs.Steps.Edges.{link-behind, see-key, see-edge, see-beh
 use Rattle.catalogue.specs.Steps.Trial.{ends-fit, see-trial, end-trial, cross, pass-edge, step-open, take-front, step-shut, trial-shut, trial-open}
 use Rattle.catalogue.specs.Steps.Decide.{step-at, decide-at, decide}
 use Rattle.catalogue.specs.declared.links.VertexLink.{VertexLink}
-use Rattle.catalogue.specs.declared.links.EdgeLink.{EdgeLink}
 use Rattle.catalogue.specs.declared.links.EdgeLink.the-variants as edge
 use Rattle.catalogue.specs.declared.links.Room.{Room}
 use Rattle.catalogue.specs.declared.links.Room.the-variants as room
@@ -39,7 +37,7 @@ use Rattle.catalogue.specs.declared.steps.VertexFound.the-variants as found
 use Rattle.catalogue.specs.declared.steps.EdgeSeen.{EdgeSeen}
 use Rattle.catalogue.specs.declared.steps.EdgeSeen.the-variants as sees
 use Rattle.catalogue.specs.declared.steps.Decision.{Decision}
-use Rattle.catalogue.specs.declared.steps.Decision.the-variants.{Torn, Code, Going, Begins, Keeps, Meets, Takes, Reply}
+use Rattle.catalogue.specs.declared.steps.Decision.the-variants.{Torn}
 use Rattle.catalogue.proofs.Picks.{clash, pick-both, vertex-both, edge-both, target-both}
 use Rattle.steps.specs.Follows.{Follows}
 use Rattle.steps.proofs.Pools.{edge-in-pool, Handed, handed}

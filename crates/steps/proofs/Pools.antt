@@ -1,12 +1,11 @@
 -- Numbers that were read, or handed out, lie in their pools. Assumes nothing.
 use Prim.Native.Nat.{ℕ, _+_, _<_, _≤_, _/_, _%_}
-use mathlib.Core.Bool.{true, false}
 use mathlib.Core.Path.{_≡_, sym, _∙_, subst}
 use native.Mathlib.Omega.{arith}
 use borrow.Author.Tests.{ltb-true}
 use mir.Syntax.{w8}
 use mir.Val.{Fits}
-use lib.Dec.{ltb, leb, eqb}
+use lib.Dec.{ltb, eqb}
 use Rattle.catalogue.specs.Numbers.{room, edge-tag}
 use Rattle.catalogue.specs.Catalogue.{edge-link-in}
 use Rattle.catalogue.specs.declared.links.EdgeLink.{EdgeLink}

@@ -1,8 +1,8 @@
 -- What was seen, by the constructor that the code took it apart into; and what a decision is made of. Assumes nothing.
-use Prim.Native.Nat.{ℕ, _<_}
-use mathlib.Core.Bool.{Bool, true, false}
+use Prim.Native.Nat.{ℕ}
+use mathlib.Core.Bool.{Bool, false}
 use mathlib.Core.List.{List}
-use mathlib.Core.Path.{_≡_, refl, sym, _∙_, ap, ap₂, subst}
+use mathlib.Core.Path.{_≡_, sym, _∙_, ap, ap₂, subst}
 use lib.IntN.{ℤ}
 use lib.Dec.{eqb}
 use Rattle.catalogue.specs.Numbers.{reserved}

@@ -1,5 +1,4 @@
 -- Document 01, "Checked examples": P1 to P10, one table with one statement.
-use Prim.Native.Nat.{ℕ}
 use mathlib.Core.Path.{_≡_, refl}
 use mathlib.Core.List.{List, [], _∷_, _++_, map}
 use lib.IntN.{ℤ, pos, negsuc}

@@ -13,7 +13,7 @@ use Rattle.catalogue.specs.Workers.{idle-table, put}
 use Rattle.catalogue.specs.Answers.{told, made-number, told-listed, told-ran}
 use Rattle.catalogue.specs.Calls.{After, take-up, step}
 use Rattle.catalogue.specs.Sweep.{sweep-into}
-use Rattle.catalogue.specs.Listing.{After-listing, list-into}
+use Rattle.catalogue.specs.Listing.{list-into}
 use Rattle.catalogue.specs.Lent.{Memory, lay, sized, output-fits, lent-take-up, lent-listing, lent-run}
 use Rattle.catalogue.specs.Runs.{start, after}
 use Rattle.catalogue.specs.Examples.Rows.{bytes, found, call}

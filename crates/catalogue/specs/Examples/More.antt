@@ -1,9 +1,10 @@
 -- Examples beside P1 to P10, for what those ten leave open.
 use mathlib.Core.Path.{_≡_, refl}
 use mathlib.Core.List.{List, [], _∷_, _++_, map}
-use lib.IntN.{ℤ, pos, negsuc}
+use lib.IntN.{pos, negsuc}
 use Rattle.catalogue.specs.Runs.{sweeps}
-use Rattle.catalogue.specs.Examples.Rows.{Example, prints, answers, meets, found, expected, call, stepped}
+use Rattle.catalogue.specs.Script.{Script, good, script-text, read-script}
+use Rattle.catalogue.specs.Examples.Rows.{Example, prints, answers, meets, bytes, found, expected, call, stepped}
 use Rattle.catalogue.specs.Examples.Checked.{unused, both-inserted, on-trial}
 
 -- The target of an ADDED edge is removed: the contents line still counts the edge, and no line shows it.
@@ -58,6 +59,22 @@ abbrev crossed-trials : Example
 crossed-trials = prints
     "3 5 9 5 65\n1 1\n1 2\n1 3\n4 1 2\n4 3 2\n4 3 3\n4 3 2\n4 1 3\n4 3 3\n1 1\n4 3 1\n5 3 3\n4 1 2\n4 2 2\n4 2 1\n2 1\n6 1 2\n3 2\n1 3\n0 0 0 0 0 0 0 0 0 0 0 0 0 0 0 0 0 0 0 1 0 0 1 2 2 2 2 2 0 2 2 0 0 0 0 0 1 1 1 1 1 2 0 0 2 2 2 0 0 0 0 1 1 1 0 0 0 0 0 1 1 1 1 1 1\n"
     "8 2 1\n2 0 1 1\n5 0 1 1\n9 0 1 1\n17 0 4 1\n45 2 4 6\n47 2 2 1\n49 0 4 1\n54 1 4 6\n2\n3\n3 2\n"
+
+-- A script as it is written, and read back: two workers, a request with one key and one with two, and three turns.
+abbrev written-script : Script
+written-script = record {
+  counts = 1 ∷ 1 ∷ [];
+  requests = record { code = 3; k = negsuc 6; l = unused } ∷ record { code = 4; k = pos 0; l = negsuc 0 } ∷ [];
+  schedule = 1 ∷ 0 ∷ 1 ∷ [];
+}
+
+pub written-out : script-text written-script ≡ bytes "2 1 1 3\n3 -7\n4 0 -1\n1 0 1\n"
+unfolding found script-text
+written-out = refl
+
+pub read-back : read-script (script-text written-script) ≡ good written-script
+unfolding found script-text
+read-back = refl
 
 abbrev pub table : List Example
 table = dead-target ∷ around-zero ∷ bad-line ∷ other-replies ∷ swept ∷ met-counts ∷ crossing-removals ∷ starting-again ∷ crossed-trials ∷ []

@@ -1,7 +1,6 @@
 -- Document 01, "The steps": one step of a worker by its place; what the record is after it, and what is answered.
 use Prim.Native.Nat.{ℕ}
 use mathlib.Core.List.{List}
-use lib.IntN.{ℤ}
 use Rattle.catalogue.specs.Tests.{pick}
 use Rattle.catalogue.specs.Catalogue.{Catalogue}
 use Rattle.catalogue.specs.Workers.{idle, bare, begun, kept, queued, taken, met-count, request-of, front-of}

@@ -3,7 +3,7 @@ use Prim.Native.Nat.{ℕ}
 use mathlib.Core.Bool.{Bool, true, false}
 use lib.IntN.{ℤ}
 use lib.Dec.{eqb, leb}
-use Rattle.catalogue.specs.Tests.{pick}
+use Rattle.catalogue.specs.Tests.{pick, one-to}
 use Rattle.catalogue.specs.Numbers.{head, reserved}
 use Rattle.catalogue.specs.declared.workers.Prev.{Prev}
 use Rattle.catalogue.specs.declared.workers.Prev.the-variants.{First}
@@ -12,7 +12,7 @@ use Rattle.catalogue.specs.declared.workers.Place.the-variants.{Idle, Ad
 
 -- First paragraph: the six codes, and how many keys each reads.
 abbrev pub code-known : ℕ → Bool
-code-known code = pick (leb 1 code) (leb code 6) false
+code-known code = one-to 6 code
 
 abbrev pub one-key : ℕ → Bool
 one-key code = leb code 3

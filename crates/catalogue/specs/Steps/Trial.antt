@@ -1,6 +1,6 @@
 -- Document 01, "The steps", the paragraph on the trial, with its cases (a) to (d).
 use Prim.Native.Nat.{ℕ}
-use mathlib.Core.Bool.{Bool, true, false}
+use mathlib.Core.Bool.{Bool, false}
 use mathlib.Core.List.{List}
 use lib.IntN.{ℤ}
 use lib.Dec.{eqb, leb}

@@ -1,24 +1,24 @@
 -- The tests are those of the definition. Assumes nothing.
 use Rattle.calls.proofs.Outcomes.{checks}
-use Rattle.catalogue.specs.Calls.{worker-fits}
+use Rattle.catalogue.specs.Calls.{worker-fits, count-fits}
 use borrow.Author.Needs.{needs}
 use Rattle.calls.proofs.checks.worker_fits.Statement.{statement}
 use Rattle.calls.proofs.checks.worker_fits.Tie as tie
 
-count-fits-requires : tie.Need-count-fits-requires
-count-fits-requires c κs = search needs
+one-to-requires : tie.Need-one-to-requires
+one-to-requires c κs = search needs
 
 returns : tie.Need-returns
-unfolding worker-fits
+unfolding worker-fits count-fits
 returns c = search checks
 
 returns-2 : tie.Need-returns-2
-unfolding worker-fits
+unfolding worker-fits count-fits
 returns-2 c = search checks
 
 returns-3 : tie.Need-returns-3
-unfolding worker-fits
+unfolding worker-fits count-fits
 returns-3 c = search checks
 
 pub worker-fits-spec : {M : Type 1} → statement M
-worker-fits-spec = tie.close (tie.spec count-fits-requires returns returns-2 returns-3)
+worker-fits-spec = tie.close (tie.spec one-to-requires returns returns-2 returns-3)

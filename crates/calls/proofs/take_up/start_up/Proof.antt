@@ -5,8 +5,8 @@ use borrow.Author.Needs.{needs}
 use Rattle.calls.proofs.take_up.start_up.Statement.{statement}
 use Rattle.calls.proofs.take_up.start_up.Tie as tie
 
-code-known-requires : tie.Need-code-known-requires
-code-known-requires c κs = search needs
+one-to-requires : tie.Need-one-to-requires
+one-to-requires c κs = search needs
 
 key-refused-requires : tie.Need-key-refused-requires
 key-refused-requires c κs = search needs
@@ -58,7 +58,7 @@ pub start-up-spec : {M : Type 1} → statement M
 start-up-spec =
     tie.close
     (tie.spec
-    code-known-requires
+    one-to-requires
     key-refused-requires
     refuse-requires
     returns
