@@ -49,13 +49,14 @@ unfoldable pub first-of : ℕ → List Swept-edge → ℕ → ℕ
 first-of x [] n = edge-tail
 first-of x (e ∷ es) n = elim (eqb x (e .source)) [ true ↦ n | false ↦ first-of x es (suc n) ]
 
--- the number after a vertex or an edge in its list, or the tail
+-- of n swept vertices the number after vertex i, or the tail
 unfoldable pub next-swept : ℕ → ℕ → ℕ
 next-swept n i = pick (ltb (suc i) (2 + n)) (suc i) tail
 
 abbrev pub source-at : List Swept-edge → ℕ → ℕ
 source-at es e = getD (0 ∷ map (λ d. d .source) es) e 0
 
+-- the number after edge e if that has the same source, or the tail
 unfoldable pub next-swept-edge : List Swept-edge → ℕ → ℕ
 next-swept-edge es e = pick (eqb (source-at es e) (source-at es (suc e))) (suc e) edge-tail
 
