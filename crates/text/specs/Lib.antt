@@ -1,0 +1,2 @@
+-- What the contracts of the writers cite beside the definitions of numbers and lines as bytes.
+pub mod Puts
