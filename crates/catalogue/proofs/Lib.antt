@@ -2,3 +2,4 @@
 pub mod Rules
 pub mod Picks
 pub mod Ways
+pub mod Pools

@@ -2,5 +2,4 @@
 pub mod Args
 pub mod Decisions
 pub mod Made
-pub mod Pools
 pub mod Seen

@@ -22,7 +22,7 @@ use Rattle.catalogue.specs.declared.steps.EdgeSeen.{EdgeSeen}
 use Rattle.catalogue.specs.declared.steps.Decision.{Decision}
 use Rattle.catalogue.specs.declared.steps.Decision.the-variants.{Going, Begins, Reply}
 use Rattle.catalogue.proofs.Ways.{ways, arg}
-use Rattle.steps.proofs.Pools.{edge-in-pool, vertex-in-pool}
+use Rattle.catalogue.proofs.Pools.{edge-in-pool, vertex-in-pool}
 use Rattle.steps.proofs.Args.{see-vertex-arg, look-at-vertex-arg, start-again-arg, vertex-place-arg, settle-vertex-arg, settle-add-vertex-arg, settle-add-edge-arg, insert-arg, look-for-arg, found-u-arg, found-v-arg, find-u-place-arg, find-v-place-arg, edges-place-arg, see-key-arg, see-edge-arg, see-behind-arg, look-at-edge-arg, settle-edge-arg, restart-arg, edge-place-arg, pass-edge-arg, cross-arg, step-open-arg, take-front-arg, step-shut-arg}
 
 -- a value l that the code knows as r, and r as the constructor s
