@@ -1,0 +1,24 @@
+-- Each way out is a case of the definition. Assumes nothing.
+use Rattle.catalogue.proofs.Ways.{ways}
+use borrow.Author.Needs.{needs}
+use Rattle.survey.proofs.tests.next_edge.Statement.{statement}
+use Rattle.survey.proofs.tests.next_edge.Tie as tie
+
+edge-link-requires : tie.Need-edge-link-requires
+edge-link-requires c κs = search needs
+
+enum-known-next : tie.Need-enum-known-next
+enum-known-next c = search needs
+
+enum-told : tie.Need-enum-told
+enum-told c = search needs
+
+returns : tie.Need-returns
+returns c = search ways
+
+returns-2 : tie.Need-returns-2
+returns-2 c = search ways
+
+pub next-edge-spec : {M : Type 1} → statement M
+next-edge-spec =
+    tie.close (tie.spec edge-link-requires enum-known-next enum-told returns returns-2)
