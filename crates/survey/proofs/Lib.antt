@@ -6,3 +6,4 @@ pub mod MetLaws
 pub mod EdgeLaws
 pub mod ListLaws
 pub mod SoundLaws
+pub mod Lives

@@ -76,7 +76,6 @@ pub fn is_added(words: &[u32], e: u16) -> bool
 
 pub fn is_live(words: &[u32], e: u16) -> bool
     requires { ⌜ length (now words) ≡ 4610 ⌝ }
-    requires { ⌜ e < 2048 ⌝ }
     ensures { λ r. ⌜ r ≡ is-live (linked (now (words .entry))) e ⌝ }
 {
     if is_added(words, e) {
