@@ -23,98 +23,9 @@ abbrev count-added-below : ℕ → In 1 count-added-kinds.ps
 count-added-below t =
     and 1 count-added-kinds.ps (falls 1 count-added-kinds.ps _<_ μ-count-added t) count-added.Pre
 
-count-added-returns : (t : ℕ) → count-added-lts.Need-returns (
-  next-edge-reads.Asked,
-  next-edge-reads.Learnt,
-  count-added-below t,
-  count-added.Post,
-  is-added-reads.Asked,
-  is-added-reads.Learnt,
-) (count-added-at t) count-added.Post
-count-added-returns t c = search count-cases
-
-count-added-returns-2 : (t : ℕ) → count-added-lts.Need-returns-2 (
-  next-edge-reads.Asked,
-  next-edge-reads.Learnt,
-  count-added-below t,
-  count-added.Post,
-  is-added-reads.Asked,
-  is-added-reads.Learnt,
-) (count-added-at t) count-added.Post
-count-added-returns-2 t c = search count-cases
-
-count-added-next-edge-requires : (t : ℕ) → count-added-lts.Need-next-edge-requires (
-  next-edge-reads.Asked,
-  next-edge-reads.Learnt,
-  count-added-below t,
-  count-added.Post,
-  is-added-reads.Asked,
-  is-added-reads.Learnt,
-) (count-added-at t) count-added.Post
-count-added-next-edge-requires t c κs = search needs
-
-count-added-sub-count-added : (t : ℕ) → count-added-lts.Need-sub-count-added (
-  next-edge-reads.Asked,
-  next-edge-reads.Learnt,
-  count-added-below t,
-  count-added.Post,
-  is-added-reads.Asked,
-  is-added-reads.Learnt,
-) (count-added-at t) count-added.Post
-count-added-sub-count-added t c = search needs
-
-count-added-count-added-requires : (t : ℕ) → count-added-lts.Need-count-added-requires (
-  next-edge-reads.Asked,
-  next-edge-reads.Learnt,
-  count-added-below t,
-  count-added.Post,
-  is-added-reads.Asked,
-  is-added-reads.Learnt,
-) (count-added-at t) count-added.Post
-count-added-count-added-requires t c κs = search count-cases
-
-count-added-is-added-requires : (t : ℕ) → count-added-lts.Need-is-added-requires (
-  next-edge-reads.Asked,
-  next-edge-reads.Learnt,
-  count-added-below t,
-  count-added.Post,
-  is-added-reads.Asked,
-  is-added-reads.Learnt,
-) (count-added-at t) count-added.Post
-count-added-is-added-requires t c κs = search needs
-
-count-added-add-result : (t : ℕ) → count-added-lts.Need-add-result (
-  next-edge-reads.Asked,
-  next-edge-reads.Learnt,
-  count-added-below t,
-  count-added.Post,
-  is-added-reads.Asked,
-  is-added-reads.Learnt,
-) (count-added-at t) count-added.Post
-count-added-add-result t c = search count-cases
-
-count-added-returns-3 : (t : ℕ) → count-added-lts.Need-returns-3 (
-  next-edge-reads.Asked,
-  next-edge-reads.Learnt,
-  count-added-below t,
-  count-added.Post,
-  is-added-reads.Asked,
-  is-added-reads.Learnt,
-) (count-added-at t) count-added.Post
-count-added-returns-3 t c = search count-cases
-
-count-added-returns-4 : (t : ℕ) → count-added-lts.Need-returns-4 (
-  next-edge-reads.Asked,
-  next-edge-reads.Learnt,
-  count-added-below t,
-  count-added.Post,
-  is-added-reads.Asked,
-  is-added-reads.Learnt,
-) (count-added-at t) count-added.Post
-count-added-returns-4 t c = search count-cases
-
-pub +count-added-spec : {M : Type 1} → statement M
-+count-added-spec = close μ-count-added λ t. count-added-lts.spec (
+-- what each callee asks and tells, where the measure is t
+abbrev heard : ℕ → count-added-lts.Claims
+heard t = (
   next-edge-reads.Asked,
   next-edge-reads.Learnt,
   count-added-below t,
@@ -122,6 +33,36 @@ pub +count-added-spec : {M : Type 1} → statement M
   is-added-reads.Asked,
   is-added-reads.Learnt,
 )
+
+count-added-returns : (t : ℕ) → count-added-lts.Need-returns (heard t) (count-added-at t) count-added.Post
+count-added-returns t c = search count-cases
+
+count-added-returns-2 : (t : ℕ) → count-added-lts.Need-returns-2 (heard t) (count-added-at t) count-added.Post
+count-added-returns-2 t c = search count-cases
+
+count-added-next-edge-requires : (t : ℕ) → count-added-lts.Need-next-edge-requires (heard t) (count-added-at t) count-added.Post
+count-added-next-edge-requires t c κs = search needs
+
+count-added-sub-count-added : (t : ℕ) → count-added-lts.Need-sub-count-added (heard t) (count-added-at t) count-added.Post
+count-added-sub-count-added t c = search needs
+
+count-added-count-added-requires : (t : ℕ) → count-added-lts.Need-count-added-requires (heard t) (count-added-at t) count-added.Post
+count-added-count-added-requires t c κs = search count-cases
+
+count-added-is-added-requires : (t : ℕ) → count-added-lts.Need-is-added-requires (heard t) (count-added-at t) count-added.Post
+count-added-is-added-requires t c κs = search needs
+
+count-added-add-result : (t : ℕ) → count-added-lts.Need-add-result (heard t) (count-added-at t) count-added.Post
+count-added-add-result t c = search count-cases
+
+count-added-returns-3 : (t : ℕ) → count-added-lts.Need-returns-3 (heard t) (count-added-at t) count-added.Post
+count-added-returns-3 t c = search count-cases
+
+count-added-returns-4 : (t : ℕ) → count-added-lts.Need-returns-4 (heard t) (count-added-at t) count-added.Post
+count-added-returns-4 t c = search count-cases
+
+pub +count-added-spec : {M : Type 1} → statement M
++count-added-spec = close μ-count-added λ t. count-added-lts.spec (heard t)
     (count-added-at t)
     count-added.Post
     (count-added-returns t)

@@ -33,7 +33,9 @@ count-added-edges-below t =
     (falls 1 count-added-edges-kinds.ps _<_ μ-count-added-edges t)
     count-added-edges.Pre
 
-count-added-edges-returns : (t : ℕ) → count-added-edges-lts.Need-returns (
+-- what each callee asks and tells, where the measure is t
+abbrev heard : ℕ → count-added-edges-lts.Claims
+heard t = (
   next-vertex-reads.Asked,
   next-vertex-reads.Learnt,
   count-added-edges-below t,
@@ -44,35 +46,15 @@ count-added-edges-returns : (t : ℕ) → count-added-edges-lts.Need-returns (
   first-edge-reads.Learnt,
   count-added-reads.Asked,
   count-added-reads.Learnt,
-) (count-added-edges-at t) count-added-edges.Post
+)
+
+count-added-edges-returns : (t : ℕ) → count-added-edges-lts.Need-returns (heard t) (count-added-edges-at t) count-added-edges.Post
 count-added-edges-returns t c = search owned-cases
 
-count-added-edges-returns-2 : (t : ℕ) → count-added-edges-lts.Need-returns-2 (
-  next-vertex-reads.Asked,
-  next-vertex-reads.Learnt,
-  count-added-edges-below t,
-  count-added-edges.Post,
-  unmarked-reads.Asked,
-  unmarked-reads.Learnt,
-  first-edge-reads.Asked,
-  first-edge-reads.Learnt,
-  count-added-reads.Asked,
-  count-added-reads.Learnt,
-) (count-added-edges-at t) count-added-edges.Post
+count-added-edges-returns-2 : (t : ℕ) → count-added-edges-lts.Need-returns-2 (heard t) (count-added-edges-at t) count-added-edges.Post
 count-added-edges-returns-2 t c = search owned-cases
 
-count-added-edges-next-vertex-requires : (t : ℕ) → count-added-edges-lts.Need-next-vertex-requires (
-  next-vertex-reads.Asked,
-  next-vertex-reads.Learnt,
-  count-added-edges-below t,
-  count-added-edges.Post,
-  unmarked-reads.Asked,
-  unmarked-reads.Learnt,
-  first-edge-reads.Asked,
-  first-edge-reads.Learnt,
-  count-added-reads.Asked,
-  count-added-reads.Learnt,
-) (count-added-edges-at t) count-added-edges.Post
+count-added-edges-next-vertex-requires : (t : ℕ) → count-added-edges-lts.Need-next-vertex-requires (heard t) (count-added-edges-at t) count-added-edges.Post
 count-added-edges-next-vertex-requires t c κs = search needs
 
 count-added-edges-sub-count-added-edges :
@@ -105,103 +87,26 @@ count-added-edges-count-added-edges-requires :
     ) (count-added-edges-at t) count-added-edges.Post
 count-added-edges-count-added-edges-requires t c κs = search owned-cases
 
-count-added-edges-unmarked-requires : (t : ℕ) → count-added-edges-lts.Need-unmarked-requires (
-  next-vertex-reads.Asked,
-  next-vertex-reads.Learnt,
-  count-added-edges-below t,
-  count-added-edges.Post,
-  unmarked-reads.Asked,
-  unmarked-reads.Learnt,
-  first-edge-reads.Asked,
-  first-edge-reads.Learnt,
-  count-added-reads.Asked,
-  count-added-reads.Learnt,
-) (count-added-edges-at t) count-added-edges.Post
+count-added-edges-unmarked-requires : (t : ℕ) → count-added-edges-lts.Need-unmarked-requires (heard t) (count-added-edges-at t) count-added-edges.Post
 count-added-edges-unmarked-requires t c κs = search needs
 
-count-added-edges-first-edge-requires : (t : ℕ) → count-added-edges-lts.Need-first-edge-requires (
-  next-vertex-reads.Asked,
-  next-vertex-reads.Learnt,
-  count-added-edges-below t,
-  count-added-edges.Post,
-  unmarked-reads.Asked,
-  unmarked-reads.Learnt,
-  first-edge-reads.Asked,
-  first-edge-reads.Learnt,
-  count-added-reads.Asked,
-  count-added-reads.Learnt,
-) (count-added-edges-at t) count-added-edges.Post
+count-added-edges-first-edge-requires : (t : ℕ) → count-added-edges-lts.Need-first-edge-requires (heard t) (count-added-edges-at t) count-added-edges.Post
 count-added-edges-first-edge-requires t c κs = search needs
 
-count-added-edges-count-added-requires : (t : ℕ) → count-added-edges-lts.Need-count-added-requires (
-  next-vertex-reads.Asked,
-  next-vertex-reads.Learnt,
-  count-added-edges-below t,
-  count-added-edges.Post,
-  unmarked-reads.Asked,
-  unmarked-reads.Learnt,
-  first-edge-reads.Asked,
-  first-edge-reads.Learnt,
-  count-added-reads.Asked,
-  count-added-reads.Learnt,
-) (count-added-edges-at t) count-added-edges.Post
+count-added-edges-count-added-requires : (t : ℕ) → count-added-edges-lts.Need-count-added-requires (heard t) (count-added-edges-at t) count-added-edges.Post
 count-added-edges-count-added-requires t c κs = search needs
 
-count-added-edges-add-result : (t : ℕ) → count-added-edges-lts.Need-add-result (
-  next-vertex-reads.Asked,
-  next-vertex-reads.Learnt,
-  count-added-edges-below t,
-  count-added-edges.Post,
-  unmarked-reads.Asked,
-  unmarked-reads.Learnt,
-  first-edge-reads.Asked,
-  first-edge-reads.Learnt,
-  count-added-reads.Asked,
-  count-added-reads.Learnt,
-) (count-added-edges-at t) count-added-edges.Post
+count-added-edges-add-result : (t : ℕ) → count-added-edges-lts.Need-add-result (heard t) (count-added-edges-at t) count-added-edges.Post
 count-added-edges-add-result t c = search owned-cases
 
-count-added-edges-returns-3 : (t : ℕ) → count-added-edges-lts.Need-returns-3 (
-  next-vertex-reads.Asked,
-  next-vertex-reads.Learnt,
-  count-added-edges-below t,
-  count-added-edges.Post,
-  unmarked-reads.Asked,
-  unmarked-reads.Learnt,
-  first-edge-reads.Asked,
-  first-edge-reads.Learnt,
-  count-added-reads.Asked,
-  count-added-reads.Learnt,
-) (count-added-edges-at t) count-added-edges.Post
+count-added-edges-returns-3 : (t : ℕ) → count-added-edges-lts.Need-returns-3 (heard t) (count-added-edges-at t) count-added-edges.Post
 count-added-edges-returns-3 t c = search owned-cases
 
-count-added-edges-returns-4 : (t : ℕ) → count-added-edges-lts.Need-returns-4 (
-  next-vertex-reads.Asked,
-  next-vertex-reads.Learnt,
-  count-added-edges-below t,
-  count-added-edges.Post,
-  unmarked-reads.Asked,
-  unmarked-reads.Learnt,
-  first-edge-reads.Asked,
-  first-edge-reads.Learnt,
-  count-added-reads.Asked,
-  count-added-reads.Learnt,
-) (count-added-edges-at t) count-added-edges.Post
+count-added-edges-returns-4 : (t : ℕ) → count-added-edges-lts.Need-returns-4 (heard t) (count-added-edges-at t) count-added-edges.Post
 count-added-edges-returns-4 t c = search owned-cases
 
 pub +count-added-edges-spec : {M : Type 1} → statement M
-+count-added-edges-spec = close μ-count-added-edges λ t. count-added-edges-lts.spec (
-  next-vertex-reads.Asked,
-  next-vertex-reads.Learnt,
-  count-added-edges-below t,
-  count-added-edges.Post,
-  unmarked-reads.Asked,
-  unmarked-reads.Learnt,
-  first-edge-reads.Asked,
-  first-edge-reads.Learnt,
-  count-added-reads.Asked,
-  count-added-reads.Learnt,
-)
++count-added-edges-spec = close μ-count-added-edges λ t. count-added-edges-lts.spec (heard t)
     (count-added-edges-at t)
     count-added-edges.Post
     (count-added-edges-returns t)

@@ -31,24 +31,21 @@ count-live-vertices-below t =
     (falls 1 count-live-vertices-kinds.ps _<_ μ-count-live-vertices t)
     count-live-vertices.Pre
 
-count-live-vertices-returns : (t : ℕ) → count-live-vertices-lts.Need-returns (
+-- what each callee asks and tells, where the measure is t
+abbrev heard : ℕ → count-live-vertices-lts.Claims
+heard t = (
   next-vertex-reads.Asked,
   next-vertex-reads.Learnt,
   count-live-vertices-below t,
   count-live-vertices.Post,
   unmarked-reads.Asked,
   unmarked-reads.Learnt,
-) (count-live-vertices-at t) count-live-vertices.Post
+)
+
+count-live-vertices-returns : (t : ℕ) → count-live-vertices-lts.Need-returns (heard t) (count-live-vertices-at t) count-live-vertices.Post
 count-live-vertices-returns t c = search count-cases
 
-count-live-vertices-returns-2 : (t : ℕ) → count-live-vertices-lts.Need-returns-2 (
-  next-vertex-reads.Asked,
-  next-vertex-reads.Learnt,
-  count-live-vertices-below t,
-  count-live-vertices.Post,
-  unmarked-reads.Asked,
-  unmarked-reads.Learnt,
-) (count-live-vertices-at t) count-live-vertices.Post
+count-live-vertices-returns-2 : (t : ℕ) → count-live-vertices-lts.Need-returns-2 (heard t) (count-live-vertices-at t) count-live-vertices.Post
 count-live-vertices-returns-2 t c = search count-cases
 
 count-live-vertices-next-vertex-requires :
@@ -84,55 +81,20 @@ count-live-vertices-count-live-vertices-requires :
     ) (count-live-vertices-at t) count-live-vertices.Post
 count-live-vertices-count-live-vertices-requires t c κs = search count-cases
 
-count-live-vertices-unmarked-requires : (t : ℕ) → count-live-vertices-lts.Need-unmarked-requires (
-  next-vertex-reads.Asked,
-  next-vertex-reads.Learnt,
-  count-live-vertices-below t,
-  count-live-vertices.Post,
-  unmarked-reads.Asked,
-  unmarked-reads.Learnt,
-) (count-live-vertices-at t) count-live-vertices.Post
+count-live-vertices-unmarked-requires : (t : ℕ) → count-live-vertices-lts.Need-unmarked-requires (heard t) (count-live-vertices-at t) count-live-vertices.Post
 count-live-vertices-unmarked-requires t c κs = search needs
 
-count-live-vertices-add-result : (t : ℕ) → count-live-vertices-lts.Need-add-result (
-  next-vertex-reads.Asked,
-  next-vertex-reads.Learnt,
-  count-live-vertices-below t,
-  count-live-vertices.Post,
-  unmarked-reads.Asked,
-  unmarked-reads.Learnt,
-) (count-live-vertices-at t) count-live-vertices.Post
+count-live-vertices-add-result : (t : ℕ) → count-live-vertices-lts.Need-add-result (heard t) (count-live-vertices-at t) count-live-vertices.Post
 count-live-vertices-add-result t c = search count-cases
 
-count-live-vertices-returns-3 : (t : ℕ) → count-live-vertices-lts.Need-returns-3 (
-  next-vertex-reads.Asked,
-  next-vertex-reads.Learnt,
-  count-live-vertices-below t,
-  count-live-vertices.Post,
-  unmarked-reads.Asked,
-  unmarked-reads.Learnt,
-) (count-live-vertices-at t) count-live-vertices.Post
+count-live-vertices-returns-3 : (t : ℕ) → count-live-vertices-lts.Need-returns-3 (heard t) (count-live-vertices-at t) count-live-vertices.Post
 count-live-vertices-returns-3 t c = search count-cases
 
-count-live-vertices-returns-4 : (t : ℕ) → count-live-vertices-lts.Need-returns-4 (
-  next-vertex-reads.Asked,
-  next-vertex-reads.Learnt,
-  count-live-vertices-below t,
-  count-live-vertices.Post,
-  unmarked-reads.Asked,
-  unmarked-reads.Learnt,
-) (count-live-vertices-at t) count-live-vertices.Post
+count-live-vertices-returns-4 : (t : ℕ) → count-live-vertices-lts.Need-returns-4 (heard t) (count-live-vertices-at t) count-live-vertices.Post
 count-live-vertices-returns-4 t c = search count-cases
 
 pub +count-live-vertices-spec : {M : Type 1} → statement M
-+count-live-vertices-spec = close μ-count-live-vertices λ t. count-live-vertices-lts.spec (
-  next-vertex-reads.Asked,
-  next-vertex-reads.Learnt,
-  count-live-vertices-below t,
-  count-live-vertices.Post,
-  unmarked-reads.Asked,
-  unmarked-reads.Learnt,
-)
++count-live-vertices-spec = close μ-count-live-vertices λ t. count-live-vertices-lts.spec (heard t)
     (count-live-vertices-at t)
     count-live-vertices.Post
     (count-live-vertices-returns t)

@@ -26,248 +26,9 @@ abbrev list-edges-below : ℕ → In 3 list-edges-kinds.ps
 list-edges-below t =
     and 3 list-edges-kinds.ps (falls 3 list-edges-kinds.ps _<_ μ-list-edges t) list-edges.Pre
 
-list-edges-returns : (t : ℕ) → list-edges-lts.Need-returns (
-  next-vertex-reads.Asked,
-  next-vertex-reads.Learnt,
-  unmarked-reads.Asked,
-  unmarked-reads.Learnt,
-  vertex-key-reads.Asked,
-  vertex-key-reads.Learnt,
-  first-edge-reads.Asked,
-  first-edge-reads.Learnt,
-  list-edges-of-reads.Asked,
-  list-edges-of-reads.Learnt,
-  list-edges-below t,
-  list-edges.Post,
-) (list-edges-at t) list-edges.Post
-list-edges-returns t c = (search gather-cases, search gather-cases)
-
-list-edges-returns-2 : (t : ℕ) → list-edges-lts.Need-returns-2 (
-  next-vertex-reads.Asked,
-  next-vertex-reads.Learnt,
-  unmarked-reads.Asked,
-  unmarked-reads.Learnt,
-  vertex-key-reads.Asked,
-  vertex-key-reads.Learnt,
-  first-edge-reads.Asked,
-  first-edge-reads.Learnt,
-  list-edges-of-reads.Asked,
-  list-edges-of-reads.Learnt,
-  list-edges-below t,
-  list-edges.Post,
-) (list-edges-at t) list-edges.Post
-list-edges-returns-2 t c = (search gather-cases, search gather-cases)
-
-list-edges-next-vertex-requires : (t : ℕ) → list-edges-lts.Need-next-vertex-requires (
-  next-vertex-reads.Asked,
-  next-vertex-reads.Learnt,
-  unmarked-reads.Asked,
-  unmarked-reads.Learnt,
-  vertex-key-reads.Asked,
-  vertex-key-reads.Learnt,
-  first-edge-reads.Asked,
-  first-edge-reads.Learnt,
-  list-edges-of-reads.Asked,
-  list-edges-of-reads.Learnt,
-  list-edges-below t,
-  list-edges.Post,
-) (list-edges-at t) list-edges.Post
-list-edges-next-vertex-requires t c κs = search needs
-
-list-edges-unmarked-requires : (t : ℕ) → list-edges-lts.Need-unmarked-requires (
-  next-vertex-reads.Asked,
-  next-vertex-reads.Learnt,
-  unmarked-reads.Asked,
-  unmarked-reads.Learnt,
-  vertex-key-reads.Asked,
-  vertex-key-reads.Learnt,
-  first-edge-reads.Asked,
-  first-edge-reads.Learnt,
-  list-edges-of-reads.Asked,
-  list-edges-of-reads.Learnt,
-  list-edges-below t,
-  list-edges.Post,
-) (list-edges-at t) list-edges.Post
-list-edges-unmarked-requires t c κs = search needs
-
-list-edges-vertex-key-requires : (t : ℕ) → list-edges-lts.Need-vertex-key-requires (
-  next-vertex-reads.Asked,
-  next-vertex-reads.Learnt,
-  unmarked-reads.Asked,
-  unmarked-reads.Learnt,
-  vertex-key-reads.Asked,
-  vertex-key-reads.Learnt,
-  first-edge-reads.Asked,
-  first-edge-reads.Learnt,
-  list-edges-of-reads.Asked,
-  list-edges-of-reads.Learnt,
-  list-edges-below t,
-  list-edges.Post,
-) (list-edges-at t) list-edges.Post
-list-edges-vertex-key-requires t c κs = search needs
-
-list-edges-first-edge-requires : (t : ℕ) → list-edges-lts.Need-first-edge-requires (
-  next-vertex-reads.Asked,
-  next-vertex-reads.Learnt,
-  unmarked-reads.Asked,
-  unmarked-reads.Learnt,
-  vertex-key-reads.Asked,
-  vertex-key-reads.Learnt,
-  first-edge-reads.Asked,
-  first-edge-reads.Learnt,
-  list-edges-of-reads.Asked,
-  list-edges-of-reads.Learnt,
-  list-edges-below t,
-  list-edges.Post,
-) (list-edges-at t) list-edges.Post
-list-edges-first-edge-requires t c κs = search needs
-
-list-edges-list-edges-of-requires : (t : ℕ) → list-edges-lts.Need-list-edges-of-requires (
-  next-vertex-reads.Asked,
-  next-vertex-reads.Learnt,
-  unmarked-reads.Asked,
-  unmarked-reads.Learnt,
-  vertex-key-reads.Asked,
-  vertex-key-reads.Learnt,
-  first-edge-reads.Asked,
-  first-edge-reads.Learnt,
-  list-edges-of-reads.Asked,
-  list-edges-of-reads.Learnt,
-  list-edges-below t,
-  list-edges.Post,
-) (list-edges-at t) list-edges.Post
-list-edges-list-edges-of-requires t c κs = (search gather-cases, (search gather-cases, search gather-cases))
-
-list-edges-sub-list-edges : (t : ℕ) → list-edges-lts.Need-sub-list-edges (
-  next-vertex-reads.Asked,
-  next-vertex-reads.Learnt,
-  unmarked-reads.Asked,
-  unmarked-reads.Learnt,
-  vertex-key-reads.Asked,
-  vertex-key-reads.Learnt,
-  first-edge-reads.Asked,
-  first-edge-reads.Learnt,
-  list-edges-of-reads.Asked,
-  list-edges-of-reads.Learnt,
-  list-edges-below t,
-  list-edges.Post,
-) (list-edges-at t) list-edges.Post
-list-edges-sub-list-edges t c = search needs
-
-list-edges-list-edges-requires : (t : ℕ) → list-edges-lts.Need-list-edges-requires (
-  next-vertex-reads.Asked,
-  next-vertex-reads.Learnt,
-  unmarked-reads.Asked,
-  unmarked-reads.Learnt,
-  vertex-key-reads.Asked,
-  vertex-key-reads.Learnt,
-  first-edge-reads.Asked,
-  first-edge-reads.Learnt,
-  list-edges-of-reads.Asked,
-  list-edges-of-reads.Learnt,
-  list-edges-below t,
-  list-edges.Post,
-) (list-edges-at t) list-edges.Post
-list-edges-list-edges-requires t c κs = (search gather-cases, (search gather-cases, (search gather-cases, search gather-cases)))
-
-list-edges-same-length : (t : ℕ) → list-edges-lts.Need-same-length (
-  next-vertex-reads.Asked,
-  next-vertex-reads.Learnt,
-  unmarked-reads.Asked,
-  unmarked-reads.Learnt,
-  vertex-key-reads.Asked,
-  vertex-key-reads.Learnt,
-  first-edge-reads.Asked,
-  first-edge-reads.Learnt,
-  list-edges-of-reads.Asked,
-  list-edges-of-reads.Learnt,
-  list-edges-below t,
-  list-edges.Post,
-) (list-edges-at t) list-edges.Post
-list-edges-same-length t c = search gather-cases
-
-list-edges-returns-3 : (t : ℕ) → list-edges-lts.Need-returns-3 (
-  next-vertex-reads.Asked,
-  next-vertex-reads.Learnt,
-  unmarked-reads.Asked,
-  unmarked-reads.Learnt,
-  vertex-key-reads.Asked,
-  vertex-key-reads.Learnt,
-  first-edge-reads.Asked,
-  first-edge-reads.Learnt,
-  list-edges-of-reads.Asked,
-  list-edges-of-reads.Learnt,
-  list-edges-below t,
-  list-edges.Post,
-) (list-edges-at t) list-edges.Post
-list-edges-returns-3 t c = (search edges-put, search edges-put)
-
-list-edges-sub-list-edges-2 : (t : ℕ) → list-edges-lts.Need-sub-list-edges-2 (
-  next-vertex-reads.Asked,
-  next-vertex-reads.Learnt,
-  unmarked-reads.Asked,
-  unmarked-reads.Learnt,
-  vertex-key-reads.Asked,
-  vertex-key-reads.Learnt,
-  first-edge-reads.Asked,
-  first-edge-reads.Learnt,
-  list-edges-of-reads.Asked,
-  list-edges-of-reads.Learnt,
-  list-edges-below t,
-  list-edges.Post,
-) (list-edges-at t) list-edges.Post
-list-edges-sub-list-edges-2 t c = search needs
-
-list-edges-list-edges-requires-2 : (t : ℕ) → list-edges-lts.Need-list-edges-requires-2 (
-  next-vertex-reads.Asked,
-  next-vertex-reads.Learnt,
-  unmarked-reads.Asked,
-  unmarked-reads.Learnt,
-  vertex-key-reads.Asked,
-  vertex-key-reads.Learnt,
-  first-edge-reads.Asked,
-  first-edge-reads.Learnt,
-  list-edges-of-reads.Asked,
-  list-edges-of-reads.Learnt,
-  list-edges-below t,
-  list-edges.Post,
-) (list-edges-at t) list-edges.Post
-list-edges-list-edges-requires-2 t c κs = (search gather-cases, (search gather-cases, (search gather-cases, search gather-cases)))
-
-list-edges-same-length-2 : (t : ℕ) → list-edges-lts.Need-same-length-2 (
-  next-vertex-reads.Asked,
-  next-vertex-reads.Learnt,
-  unmarked-reads.Asked,
-  unmarked-reads.Learnt,
-  vertex-key-reads.Asked,
-  vertex-key-reads.Learnt,
-  first-edge-reads.Asked,
-  first-edge-reads.Learnt,
-  list-edges-of-reads.Asked,
-  list-edges-of-reads.Learnt,
-  list-edges-below t,
-  list-edges.Post,
-) (list-edges-at t) list-edges.Post
-list-edges-same-length-2 t c = search gather-cases
-
-list-edges-returns-4 : (t : ℕ) → list-edges-lts.Need-returns-4 (
-  next-vertex-reads.Asked,
-  next-vertex-reads.Learnt,
-  unmarked-reads.Asked,
-  unmarked-reads.Learnt,
-  vertex-key-reads.Asked,
-  vertex-key-reads.Learnt,
-  first-edge-reads.Asked,
-  first-edge-reads.Learnt,
-  list-edges-of-reads.Asked,
-  list-edges-of-reads.Learnt,
-  list-edges-below t,
-  list-edges.Post,
-) (list-edges-at t) list-edges.Post
-list-edges-returns-4 t c = (search gather-cases, search gather-cases)
-
-pub +list-edges-spec : {M : Type 1} → statement M
-+list-edges-spec = close μ-list-edges λ t. list-edges-lts.spec (
+-- what each callee asks and tells, where the measure is t
+abbrev heard : ℕ → list-edges-lts.Claims
+heard t = (
   next-vertex-reads.Asked,
   next-vertex-reads.Learnt,
   unmarked-reads.Asked,
@@ -281,6 +42,54 @@ pub +list-edges-spec : {M : Type 1} → statement M
   list-edges-below t,
   list-edges.Post,
 )
+
+list-edges-returns : (t : ℕ) → list-edges-lts.Need-returns (heard t) (list-edges-at t) list-edges.Post
+list-edges-returns t c = (search gather-cases, search gather-cases)
+
+list-edges-returns-2 : (t : ℕ) → list-edges-lts.Need-returns-2 (heard t) (list-edges-at t) list-edges.Post
+list-edges-returns-2 t c = (search gather-cases, search gather-cases)
+
+list-edges-next-vertex-requires : (t : ℕ) → list-edges-lts.Need-next-vertex-requires (heard t) (list-edges-at t) list-edges.Post
+list-edges-next-vertex-requires t c κs = search needs
+
+list-edges-unmarked-requires : (t : ℕ) → list-edges-lts.Need-unmarked-requires (heard t) (list-edges-at t) list-edges.Post
+list-edges-unmarked-requires t c κs = search needs
+
+list-edges-vertex-key-requires : (t : ℕ) → list-edges-lts.Need-vertex-key-requires (heard t) (list-edges-at t) list-edges.Post
+list-edges-vertex-key-requires t c κs = search needs
+
+list-edges-first-edge-requires : (t : ℕ) → list-edges-lts.Need-first-edge-requires (heard t) (list-edges-at t) list-edges.Post
+list-edges-first-edge-requires t c κs = search needs
+
+list-edges-list-edges-of-requires : (t : ℕ) → list-edges-lts.Need-list-edges-of-requires (heard t) (list-edges-at t) list-edges.Post
+list-edges-list-edges-of-requires t c κs = (search gather-cases, (search gather-cases, search gather-cases))
+
+list-edges-sub-list-edges : (t : ℕ) → list-edges-lts.Need-sub-list-edges (heard t) (list-edges-at t) list-edges.Post
+list-edges-sub-list-edges t c = search needs
+
+list-edges-list-edges-requires : (t : ℕ) → list-edges-lts.Need-list-edges-requires (heard t) (list-edges-at t) list-edges.Post
+list-edges-list-edges-requires t c κs = (search gather-cases, (search gather-cases, (search gather-cases, search gather-cases)))
+
+list-edges-same-length : (t : ℕ) → list-edges-lts.Need-same-length (heard t) (list-edges-at t) list-edges.Post
+list-edges-same-length t c = search gather-cases
+
+list-edges-returns-3 : (t : ℕ) → list-edges-lts.Need-returns-3 (heard t) (list-edges-at t) list-edges.Post
+list-edges-returns-3 t c = (search edges-put, search edges-put)
+
+list-edges-sub-list-edges-2 : (t : ℕ) → list-edges-lts.Need-sub-list-edges-2 (heard t) (list-edges-at t) list-edges.Post
+list-edges-sub-list-edges-2 t c = search needs
+
+list-edges-list-edges-requires-2 : (t : ℕ) → list-edges-lts.Need-list-edges-requires-2 (heard t) (list-edges-at t) list-edges.Post
+list-edges-list-edges-requires-2 t c κs = (search gather-cases, (search gather-cases, (search gather-cases, search gather-cases)))
+
+list-edges-same-length-2 : (t : ℕ) → list-edges-lts.Need-same-length-2 (heard t) (list-edges-at t) list-edges.Post
+list-edges-same-length-2 t c = search gather-cases
+
+list-edges-returns-4 : (t : ℕ) → list-edges-lts.Need-returns-4 (heard t) (list-edges-at t) list-edges.Post
+list-edges-returns-4 t c = (search gather-cases, search gather-cases)
+
+pub +list-edges-spec : {M : Type 1} → statement M
++list-edges-spec = close μ-list-edges λ t. list-edges-lts.spec (heard t)
     (list-edges-at t)
     list-edges.Post
     (list-edges-returns t)

@@ -29,204 +29,9 @@ list-edges-of-below t =
     (falls 3 list-edges-of-kinds.ps _<_ μ-list-edges-of t)
     list-edges-of.Pre
 
-list-edges-of-returns : (t : ℕ) → list-edges-of-lts.Need-returns (
-  next-edge-reads.Asked,
-  next-edge-reads.Learnt,
-  is-live-reads.Asked,
-  is-live-reads.Learnt,
-  edge-key-reads.Asked,
-  edge-key-reads.Learnt,
-  put-pair-reads.Asked,
-  put-pair-reads.Learnt,
-  list-edges-of-below t,
-  list-edges-of.Post,
-) (list-edges-of-at t) list-edges-of.Post
-list-edges-of-returns t c = (search list-cases, (search list-cases, search list-cases))
-
-list-edges-of-returns-2 : (t : ℕ) → list-edges-of-lts.Need-returns-2 (
-  next-edge-reads.Asked,
-  next-edge-reads.Learnt,
-  is-live-reads.Asked,
-  is-live-reads.Learnt,
-  edge-key-reads.Asked,
-  edge-key-reads.Learnt,
-  put-pair-reads.Asked,
-  put-pair-reads.Learnt,
-  list-edges-of-below t,
-  list-edges-of.Post,
-) (list-edges-of-at t) list-edges-of.Post
-list-edges-of-returns-2 t c = (search list-cases, (search list-cases, search list-cases))
-
-list-edges-of-next-edge-requires : (t : ℕ) → list-edges-of-lts.Need-next-edge-requires (
-  next-edge-reads.Asked,
-  next-edge-reads.Learnt,
-  is-live-reads.Asked,
-  is-live-reads.Learnt,
-  edge-key-reads.Asked,
-  edge-key-reads.Learnt,
-  put-pair-reads.Asked,
-  put-pair-reads.Learnt,
-  list-edges-of-below t,
-  list-edges-of.Post,
-) (list-edges-of-at t) list-edges-of.Post
-list-edges-of-next-edge-requires t c κs = search needs
-
-list-edges-of-is-live-requires : (t : ℕ) → list-edges-of-lts.Need-is-live-requires (
-  next-edge-reads.Asked,
-  next-edge-reads.Learnt,
-  is-live-reads.Asked,
-  is-live-reads.Learnt,
-  edge-key-reads.Asked,
-  edge-key-reads.Learnt,
-  put-pair-reads.Asked,
-  put-pair-reads.Learnt,
-  list-edges-of-below t,
-  list-edges-of.Post,
-) (list-edges-of-at t) list-edges-of.Post
-list-edges-of-is-live-requires t c κs = search needs
-
-list-edges-of-edge-key-requires : (t : ℕ) → list-edges-of-lts.Need-edge-key-requires (
-  next-edge-reads.Asked,
-  next-edge-reads.Learnt,
-  is-live-reads.Asked,
-  is-live-reads.Learnt,
-  edge-key-reads.Asked,
-  edge-key-reads.Learnt,
-  put-pair-reads.Asked,
-  put-pair-reads.Learnt,
-  list-edges-of-below t,
-  list-edges-of.Post,
-) (list-edges-of-at t) list-edges-of.Post
-list-edges-of-edge-key-requires t c κs = search list-cases
-
-list-edges-of-put-pair-requires : (t : ℕ) → list-edges-of-lts.Need-put-pair-requires (
-  next-edge-reads.Asked,
-  next-edge-reads.Learnt,
-  is-live-reads.Asked,
-  is-live-reads.Learnt,
-  edge-key-reads.Asked,
-  edge-key-reads.Learnt,
-  put-pair-reads.Asked,
-  put-pair-reads.Learnt,
-  list-edges-of-below t,
-  list-edges-of.Post,
-) (list-edges-of-at t) list-edges-of.Post
-list-edges-of-put-pair-requires t c κs = search list-cases
-
-list-edges-of-sub-list-edges-of : (t : ℕ) → list-edges-of-lts.Need-sub-list-edges-of (
-  next-edge-reads.Asked,
-  next-edge-reads.Learnt,
-  is-live-reads.Asked,
-  is-live-reads.Learnt,
-  edge-key-reads.Asked,
-  edge-key-reads.Learnt,
-  put-pair-reads.Asked,
-  put-pair-reads.Learnt,
-  list-edges-of-below t,
-  list-edges-of.Post,
-) (list-edges-of-at t) list-edges-of.Post
-list-edges-of-sub-list-edges-of t c = search needs
-
-list-edges-of-list-edges-of-requires : (t : ℕ) → list-edges-of-lts.Need-list-edges-of-requires (
-  next-edge-reads.Asked,
-  next-edge-reads.Learnt,
-  is-live-reads.Asked,
-  is-live-reads.Learnt,
-  edge-key-reads.Asked,
-  edge-key-reads.Learnt,
-  put-pair-reads.Asked,
-  put-pair-reads.Learnt,
-  list-edges-of-below t,
-  list-edges-of.Post,
-) (list-edges-of-at t) list-edges-of.Post
-list-edges-of-list-edges-of-requires t c κs = (search list-cases, (search list-cases, (search list-cases, search list-cases)))
-
-list-edges-of-same-length : (t : ℕ) → list-edges-of-lts.Need-same-length (
-  next-edge-reads.Asked,
-  next-edge-reads.Learnt,
-  is-live-reads.Asked,
-  is-live-reads.Learnt,
-  edge-key-reads.Asked,
-  edge-key-reads.Learnt,
-  put-pair-reads.Asked,
-  put-pair-reads.Learnt,
-  list-edges-of-below t,
-  list-edges-of.Post,
-) (list-edges-of-at t) list-edges-of.Post
-list-edges-of-same-length t c = search list-cases
-
-list-edges-of-returns-3 : (t : ℕ) → list-edges-of-lts.Need-returns-3 (
-  next-edge-reads.Asked,
-  next-edge-reads.Learnt,
-  is-live-reads.Asked,
-  is-live-reads.Learnt,
-  edge-key-reads.Asked,
-  edge-key-reads.Learnt,
-  put-pair-reads.Asked,
-  put-pair-reads.Learnt,
-  list-edges-of-below t,
-  list-edges-of.Post,
-) (list-edges-of-at t) list-edges-of.Post
-list-edges-of-returns-3 t c = (search list-cases, (search list-cases, search list-cases))
-
-list-edges-of-sub-list-edges-of-2 : (t : ℕ) → list-edges-of-lts.Need-sub-list-edges-of-2 (
-  next-edge-reads.Asked,
-  next-edge-reads.Learnt,
-  is-live-reads.Asked,
-  is-live-reads.Learnt,
-  edge-key-reads.Asked,
-  edge-key-reads.Learnt,
-  put-pair-reads.Asked,
-  put-pair-reads.Learnt,
-  list-edges-of-below t,
-  list-edges-of.Post,
-) (list-edges-of-at t) list-edges-of.Post
-list-edges-of-sub-list-edges-of-2 t c = search needs
-
-list-edges-of-list-edges-of-requires-2 : (t : ℕ) → list-edges-of-lts.Need-list-edges-of-requires-2 (
-  next-edge-reads.Asked,
-  next-edge-reads.Learnt,
-  is-live-reads.Asked,
-  is-live-reads.Learnt,
-  edge-key-reads.Asked,
-  edge-key-reads.Learnt,
-  put-pair-reads.Asked,
-  put-pair-reads.Learnt,
-  list-edges-of-below t,
-  list-edges-of.Post,
-) (list-edges-of-at t) list-edges-of.Post
-list-edges-of-list-edges-of-requires-2 t c κs = search list-cases
-
-list-edges-of-same-length-2 : (t : ℕ) → list-edges-of-lts.Need-same-length-2 (
-  next-edge-reads.Asked,
-  next-edge-reads.Learnt,
-  is-live-reads.Asked,
-  is-live-reads.Learnt,
-  edge-key-reads.Asked,
-  edge-key-reads.Learnt,
-  put-pair-reads.Asked,
-  put-pair-reads.Learnt,
-  list-edges-of-below t,
-  list-edges-of.Post,
-) (list-edges-of-at t) list-edges-of.Post
-list-edges-of-same-length-2 t c = search list-cases
-
-list-edges-of-returns-4 : (t : ℕ) → list-edges-of-lts.Need-returns-4 (
-  next-edge-reads.Asked,
-  next-edge-reads.Learnt,
-  is-live-reads.Asked,
-  is-live-reads.Learnt,
-  edge-key-reads.Asked,
-  edge-key-reads.Learnt,
-  put-pair-reads.Asked,
-  put-pair-reads.Learnt,
-  list-edges-of-below t,
-  list-edges-of.Post,
-) (list-edges-of-at t) list-edges-of.Post
-list-edges-of-returns-4 t c = (search list-cases, (search list-cases, search list-cases))
-
-pub +list-edges-of-spec : {M : Type 1} → statement M
-+list-edges-of-spec = close μ-list-edges-of λ t. list-edges-of-lts.spec (
+-- what each callee asks and tells, where the measure is t
+abbrev heard : ℕ → list-edges-of-lts.Claims
+heard t = (
   next-edge-reads.Asked,
   next-edge-reads.Learnt,
   is-live-reads.Asked,
@@ -238,6 +43,51 @@ pub +list-edges-of-spec : {M : Type 1} → statement M
   list-edges-of-below t,
   list-edges-of.Post,
 )
+
+list-edges-of-returns : (t : ℕ) → list-edges-of-lts.Need-returns (heard t) (list-edges-of-at t) list-edges-of.Post
+list-edges-of-returns t c = (search list-cases, (search list-cases, search list-cases))
+
+list-edges-of-returns-2 : (t : ℕ) → list-edges-of-lts.Need-returns-2 (heard t) (list-edges-of-at t) list-edges-of.Post
+list-edges-of-returns-2 t c = (search list-cases, (search list-cases, search list-cases))
+
+list-edges-of-next-edge-requires : (t : ℕ) → list-edges-of-lts.Need-next-edge-requires (heard t) (list-edges-of-at t) list-edges-of.Post
+list-edges-of-next-edge-requires t c κs = search needs
+
+list-edges-of-is-live-requires : (t : ℕ) → list-edges-of-lts.Need-is-live-requires (heard t) (list-edges-of-at t) list-edges-of.Post
+list-edges-of-is-live-requires t c κs = search needs
+
+list-edges-of-edge-key-requires : (t : ℕ) → list-edges-of-lts.Need-edge-key-requires (heard t) (list-edges-of-at t) list-edges-of.Post
+list-edges-of-edge-key-requires t c κs = search list-cases
+
+list-edges-of-put-pair-requires : (t : ℕ) → list-edges-of-lts.Need-put-pair-requires (heard t) (list-edges-of-at t) list-edges-of.Post
+list-edges-of-put-pair-requires t c κs = search list-cases
+
+list-edges-of-sub-list-edges-of : (t : ℕ) → list-edges-of-lts.Need-sub-list-edges-of (heard t) (list-edges-of-at t) list-edges-of.Post
+list-edges-of-sub-list-edges-of t c = search needs
+
+list-edges-of-list-edges-of-requires : (t : ℕ) → list-edges-of-lts.Need-list-edges-of-requires (heard t) (list-edges-of-at t) list-edges-of.Post
+list-edges-of-list-edges-of-requires t c κs = (search list-cases, (search list-cases, (search list-cases, search list-cases)))
+
+list-edges-of-same-length : (t : ℕ) → list-edges-of-lts.Need-same-length (heard t) (list-edges-of-at t) list-edges-of.Post
+list-edges-of-same-length t c = search list-cases
+
+list-edges-of-returns-3 : (t : ℕ) → list-edges-of-lts.Need-returns-3 (heard t) (list-edges-of-at t) list-edges-of.Post
+list-edges-of-returns-3 t c = (search list-cases, (search list-cases, search list-cases))
+
+list-edges-of-sub-list-edges-of-2 : (t : ℕ) → list-edges-of-lts.Need-sub-list-edges-of-2 (heard t) (list-edges-of-at t) list-edges-of.Post
+list-edges-of-sub-list-edges-of-2 t c = search needs
+
+list-edges-of-list-edges-of-requires-2 : (t : ℕ) → list-edges-of-lts.Need-list-edges-of-requires-2 (heard t) (list-edges-of-at t) list-edges-of.Post
+list-edges-of-list-edges-of-requires-2 t c κs = search list-cases
+
+list-edges-of-same-length-2 : (t : ℕ) → list-edges-of-lts.Need-same-length-2 (heard t) (list-edges-of-at t) list-edges-of.Post
+list-edges-of-same-length-2 t c = search list-cases
+
+list-edges-of-returns-4 : (t : ℕ) → list-edges-of-lts.Need-returns-4 (heard t) (list-edges-of-at t) list-edges-of.Post
+list-edges-of-returns-4 t c = (search list-cases, (search list-cases, search list-cases))
+
+pub +list-edges-of-spec : {M : Type 1} → statement M
++list-edges-of-spec = close μ-list-edges-of λ t. list-edges-of-lts.spec (heard t)
     (list-edges-of-at t)
     list-edges-of.Post
     (list-edges-of-returns t)

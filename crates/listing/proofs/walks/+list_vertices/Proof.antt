@@ -29,204 +29,9 @@ list-vertices-below t =
     (falls 3 list-vertices-kinds.ps _<_ μ-list-vertices t)
     list-vertices.Pre
 
-list-vertices-returns : (t : ℕ) → list-vertices-lts.Need-returns (
-  next-vertex-reads.Asked,
-  next-vertex-reads.Learnt,
-  unmarked-reads.Asked,
-  unmarked-reads.Learnt,
-  vertex-key-reads.Asked,
-  vertex-key-reads.Learnt,
-  put-one-reads.Asked,
-  put-one-reads.Learnt,
-  list-vertices-below t,
-  list-vertices.Post,
-) (list-vertices-at t) list-vertices.Post
-list-vertices-returns t c = (search list-cases, (search list-cases, search list-cases))
-
-list-vertices-returns-2 : (t : ℕ) → list-vertices-lts.Need-returns-2 (
-  next-vertex-reads.Asked,
-  next-vertex-reads.Learnt,
-  unmarked-reads.Asked,
-  unmarked-reads.Learnt,
-  vertex-key-reads.Asked,
-  vertex-key-reads.Learnt,
-  put-one-reads.Asked,
-  put-one-reads.Learnt,
-  list-vertices-below t,
-  list-vertices.Post,
-) (list-vertices-at t) list-vertices.Post
-list-vertices-returns-2 t c = (search list-cases, (search list-cases, search list-cases))
-
-list-vertices-next-vertex-requires : (t : ℕ) → list-vertices-lts.Need-next-vertex-requires (
-  next-vertex-reads.Asked,
-  next-vertex-reads.Learnt,
-  unmarked-reads.Asked,
-  unmarked-reads.Learnt,
-  vertex-key-reads.Asked,
-  vertex-key-reads.Learnt,
-  put-one-reads.Asked,
-  put-one-reads.Learnt,
-  list-vertices-below t,
-  list-vertices.Post,
-) (list-vertices-at t) list-vertices.Post
-list-vertices-next-vertex-requires t c κs = search needs
-
-list-vertices-unmarked-requires : (t : ℕ) → list-vertices-lts.Need-unmarked-requires (
-  next-vertex-reads.Asked,
-  next-vertex-reads.Learnt,
-  unmarked-reads.Asked,
-  unmarked-reads.Learnt,
-  vertex-key-reads.Asked,
-  vertex-key-reads.Learnt,
-  put-one-reads.Asked,
-  put-one-reads.Learnt,
-  list-vertices-below t,
-  list-vertices.Post,
-) (list-vertices-at t) list-vertices.Post
-list-vertices-unmarked-requires t c κs = search needs
-
-list-vertices-vertex-key-requires : (t : ℕ) → list-vertices-lts.Need-vertex-key-requires (
-  next-vertex-reads.Asked,
-  next-vertex-reads.Learnt,
-  unmarked-reads.Asked,
-  unmarked-reads.Learnt,
-  vertex-key-reads.Asked,
-  vertex-key-reads.Learnt,
-  put-one-reads.Asked,
-  put-one-reads.Learnt,
-  list-vertices-below t,
-  list-vertices.Post,
-) (list-vertices-at t) list-vertices.Post
-list-vertices-vertex-key-requires t c κs = search needs
-
-list-vertices-put-one-requires : (t : ℕ) → list-vertices-lts.Need-put-one-requires (
-  next-vertex-reads.Asked,
-  next-vertex-reads.Learnt,
-  unmarked-reads.Asked,
-  unmarked-reads.Learnt,
-  vertex-key-reads.Asked,
-  vertex-key-reads.Learnt,
-  put-one-reads.Asked,
-  put-one-reads.Learnt,
-  list-vertices-below t,
-  list-vertices.Post,
-) (list-vertices-at t) list-vertices.Post
-list-vertices-put-one-requires t c κs = search list-cases
-
-list-vertices-sub-list-vertices : (t : ℕ) → list-vertices-lts.Need-sub-list-vertices (
-  next-vertex-reads.Asked,
-  next-vertex-reads.Learnt,
-  unmarked-reads.Asked,
-  unmarked-reads.Learnt,
-  vertex-key-reads.Asked,
-  vertex-key-reads.Learnt,
-  put-one-reads.Asked,
-  put-one-reads.Learnt,
-  list-vertices-below t,
-  list-vertices.Post,
-) (list-vertices-at t) list-vertices.Post
-list-vertices-sub-list-vertices t c = search needs
-
-list-vertices-list-vertices-requires : (t : ℕ) → list-vertices-lts.Need-list-vertices-requires (
-  next-vertex-reads.Asked,
-  next-vertex-reads.Learnt,
-  unmarked-reads.Asked,
-  unmarked-reads.Learnt,
-  vertex-key-reads.Asked,
-  vertex-key-reads.Learnt,
-  put-one-reads.Asked,
-  put-one-reads.Learnt,
-  list-vertices-below t,
-  list-vertices.Post,
-) (list-vertices-at t) list-vertices.Post
-list-vertices-list-vertices-requires t c κs = (search list-cases, (search list-cases, (search list-cases, search list-cases)))
-
-list-vertices-same-length : (t : ℕ) → list-vertices-lts.Need-same-length (
-  next-vertex-reads.Asked,
-  next-vertex-reads.Learnt,
-  unmarked-reads.Asked,
-  unmarked-reads.Learnt,
-  vertex-key-reads.Asked,
-  vertex-key-reads.Learnt,
-  put-one-reads.Asked,
-  put-one-reads.Learnt,
-  list-vertices-below t,
-  list-vertices.Post,
-) (list-vertices-at t) list-vertices.Post
-list-vertices-same-length t c = search list-cases
-
-list-vertices-returns-3 : (t : ℕ) → list-vertices-lts.Need-returns-3 (
-  next-vertex-reads.Asked,
-  next-vertex-reads.Learnt,
-  unmarked-reads.Asked,
-  unmarked-reads.Learnt,
-  vertex-key-reads.Asked,
-  vertex-key-reads.Learnt,
-  put-one-reads.Asked,
-  put-one-reads.Learnt,
-  list-vertices-below t,
-  list-vertices.Post,
-) (list-vertices-at t) list-vertices.Post
-list-vertices-returns-3 t c = (search list-cases, (search list-cases, search list-cases))
-
-list-vertices-sub-list-vertices-2 : (t : ℕ) → list-vertices-lts.Need-sub-list-vertices-2 (
-  next-vertex-reads.Asked,
-  next-vertex-reads.Learnt,
-  unmarked-reads.Asked,
-  unmarked-reads.Learnt,
-  vertex-key-reads.Asked,
-  vertex-key-reads.Learnt,
-  put-one-reads.Asked,
-  put-one-reads.Learnt,
-  list-vertices-below t,
-  list-vertices.Post,
-) (list-vertices-at t) list-vertices.Post
-list-vertices-sub-list-vertices-2 t c = search needs
-
-list-vertices-list-vertices-requires-2 : (t : ℕ) → list-vertices-lts.Need-list-vertices-requires-2 (
-  next-vertex-reads.Asked,
-  next-vertex-reads.Learnt,
-  unmarked-reads.Asked,
-  unmarked-reads.Learnt,
-  vertex-key-reads.Asked,
-  vertex-key-reads.Learnt,
-  put-one-reads.Asked,
-  put-one-reads.Learnt,
-  list-vertices-below t,
-  list-vertices.Post,
-) (list-vertices-at t) list-vertices.Post
-list-vertices-list-vertices-requires-2 t c κs = search list-cases
-
-list-vertices-same-length-2 : (t : ℕ) → list-vertices-lts.Need-same-length-2 (
-  next-vertex-reads.Asked,
-  next-vertex-reads.Learnt,
-  unmarked-reads.Asked,
-  unmarked-reads.Learnt,
-  vertex-key-reads.Asked,
-  vertex-key-reads.Learnt,
-  put-one-reads.Asked,
-  put-one-reads.Learnt,
-  list-vertices-below t,
-  list-vertices.Post,
-) (list-vertices-at t) list-vertices.Post
-list-vertices-same-length-2 t c = search list-cases
-
-list-vertices-returns-4 : (t : ℕ) → list-vertices-lts.Need-returns-4 (
-  next-vertex-reads.Asked,
-  next-vertex-reads.Learnt,
-  unmarked-reads.Asked,
-  unmarked-reads.Learnt,
-  vertex-key-reads.Asked,
-  vertex-key-reads.Learnt,
-  put-one-reads.Asked,
-  put-one-reads.Learnt,
-  list-vertices-below t,
-  list-vertices.Post,
-) (list-vertices-at t) list-vertices.Post
-list-vertices-returns-4 t c = (search list-cases, (search list-cases, search list-cases))
-
-pub +list-vertices-spec : {M : Type 1} → statement M
-+list-vertices-spec = close μ-list-vertices λ t. list-vertices-lts.spec (
+-- what each callee asks and tells, where the measure is t
+abbrev heard : ℕ → list-vertices-lts.Claims
+heard t = (
   next-vertex-reads.Asked,
   next-vertex-reads.Learnt,
   unmarked-reads.Asked,
@@ -238,6 +43,51 @@ pub +list-vertices-spec : {M : Type 1} → statement M
   list-vertices-below t,
   list-vertices.Post,
 )
+
+list-vertices-returns : (t : ℕ) → list-vertices-lts.Need-returns (heard t) (list-vertices-at t) list-vertices.Post
+list-vertices-returns t c = (search list-cases, (search list-cases, search list-cases))
+
+list-vertices-returns-2 : (t : ℕ) → list-vertices-lts.Need-returns-2 (heard t) (list-vertices-at t) list-vertices.Post
+list-vertices-returns-2 t c = (search list-cases, (search list-cases, search list-cases))
+
+list-vertices-next-vertex-requires : (t : ℕ) → list-vertices-lts.Need-next-vertex-requires (heard t) (list-vertices-at t) list-vertices.Post
+list-vertices-next-vertex-requires t c κs = search needs
+
+list-vertices-unmarked-requires : (t : ℕ) → list-vertices-lts.Need-unmarked-requires (heard t) (list-vertices-at t) list-vertices.Post
+list-vertices-unmarked-requires t c κs = search needs
+
+list-vertices-vertex-key-requires : (t : ℕ) → list-vertices-lts.Need-vertex-key-requires (heard t) (list-vertices-at t) list-vertices.Post
+list-vertices-vertex-key-requires t c κs = search needs
+
+list-vertices-put-one-requires : (t : ℕ) → list-vertices-lts.Need-put-one-requires (heard t) (list-vertices-at t) list-vertices.Post
+list-vertices-put-one-requires t c κs = search list-cases
+
+list-vertices-sub-list-vertices : (t : ℕ) → list-vertices-lts.Need-sub-list-vertices (heard t) (list-vertices-at t) list-vertices.Post
+list-vertices-sub-list-vertices t c = search needs
+
+list-vertices-list-vertices-requires : (t : ℕ) → list-vertices-lts.Need-list-vertices-requires (heard t) (list-vertices-at t) list-vertices.Post
+list-vertices-list-vertices-requires t c κs = (search list-cases, (search list-cases, (search list-cases, search list-cases)))
+
+list-vertices-same-length : (t : ℕ) → list-vertices-lts.Need-same-length (heard t) (list-vertices-at t) list-vertices.Post
+list-vertices-same-length t c = search list-cases
+
+list-vertices-returns-3 : (t : ℕ) → list-vertices-lts.Need-returns-3 (heard t) (list-vertices-at t) list-vertices.Post
+list-vertices-returns-3 t c = (search list-cases, (search list-cases, search list-cases))
+
+list-vertices-sub-list-vertices-2 : (t : ℕ) → list-vertices-lts.Need-sub-list-vertices-2 (heard t) (list-vertices-at t) list-vertices.Post
+list-vertices-sub-list-vertices-2 t c = search needs
+
+list-vertices-list-vertices-requires-2 : (t : ℕ) → list-vertices-lts.Need-list-vertices-requires-2 (heard t) (list-vertices-at t) list-vertices.Post
+list-vertices-list-vertices-requires-2 t c κs = search list-cases
+
+list-vertices-same-length-2 : (t : ℕ) → list-vertices-lts.Need-same-length-2 (heard t) (list-vertices-at t) list-vertices.Post
+list-vertices-same-length-2 t c = search list-cases
+
+list-vertices-returns-4 : (t : ℕ) → list-vertices-lts.Need-returns-4 (heard t) (list-vertices-at t) list-vertices.Post
+list-vertices-returns-4 t c = (search list-cases, (search list-cases, search list-cases))
+
+pub +list-vertices-spec : {M : Type 1} → statement M
++list-vertices-spec = close μ-list-vertices λ t. list-vertices-lts.spec (heard t)
     (list-vertices-at t)
     list-vertices.Post
     (list-vertices-returns t)
