@@ -1,20 +1,18 @@
 -- The outcome of a call, by the checks on the way: what each check says of the definition, and what it gives the checks after it. Assumes nothing.
 use Prim.Native.Nat.{ℕ, _<_}
 use mathlib.Core.Bool.{Bool, true, false}
-use mathlib.Core.List.{List}
 use mathlib.Core.Path.{_≡_, refl, sym, _∙_, ap, ap₂}
 use native.Mathlib.Omega.{arith}
-use borrow.Author.Tests.{leb-true, ltb-true, eqb-true}
+use borrow.Author.Tests.{leb-true, ltb-true}
 use mir.Facts.{toZ-ofZ}
 use borrow.Author.Needs.{sfits-of}
 use lib.IntN.{ℤ}
-use lib.ListN.{length}
-use lib.Dec.{eqb, leb, ltb}
+use lib.Dec.{leb, ltb}
 use Rattle.catalogue.specs.Tests.{pick, one-to}
 use Rattle.catalogue.specs.Catalogue.{at-vertex}
 use Rattle.catalogue.specs.Workers.{busy-at, worker-at, bare, put}
 use Rattle.catalogue.specs.Calls.{After, count-fits, worker-fits, start-up, take-up}
-use Rattle.catalogue.specs.Lent.{Memory, Sized, keys-size, words-size, memory-of, view, sized, outcome-of, refused, lent-take-up}
+use Rattle.catalogue.specs.Lent.{Memory, view, sized, outcome-of, refused, lent-take-up}
 use Rattle.catalogue.specs.Steps.Places.{key-refused, first-place}
 use Rattle.catalogue.specs.declared.answers.Answer.the-variants.{Going}
 use Rattle.catalogue.specs.declared.answers.Outcome.{Outcome}
@@ -24,21 +22,11 @@ use Rattle.catalogue.specs.declared.links.VertexLink.the-variants as vertex
 use Rattle.catalogue.specs.declared.workers.Place.{Place}
 use Rattle.catalogue.specs.declared.workers.Table.{Table}
 use Rattle.catalogue.specs.declared.workers.Worker.{Worker}
-use Rattle.catalogue.proofs.Picks.{clash}
+use Rattle.catalogue.proofs.Picks.{both-true}
 use Rattle.catalogue.proofs.Ways.{ways}
+use Rattle.memory.proofs.Sizes.{size-flag}
 
 -- ---- what the checks give
-
--- both of two tests hold where the one picked by them does
-both-true : (a b : Bool) → pick a b false ≡ true → (a ≡ true) × (b ≡ true)
-both-true true b e = (refl, e)
-both-true false b e = clash (cc)
-
-pub sized-is : (m : Memory) → sized m ≡ true → Sized (m .keys) (m .words)
-unfolding sized
-sized-is m e =
-    let h = both-true (eqb (length (m .keys)) keys-size) (eqb (length (m .words)) words-size) e in
-    record { keyed = eqb-true _ _ (h .0); worded = eqb-true _ _ (h .1) }
 
 pub worker-below : (count w : ℕ) → worker-fits count w ≡ true → w < 8
 unfolding worker-fits count-fits
@@ -48,9 +36,6 @@ worker-below count w e =
     omega (arith, leb-true count 8 (g .1), ltb-true w count (h .1))
 
 -- the same, of the flag that a callee gave
-pub sized-flag : (keys : List ℤ) (words : List ℕ) (r : Bool) → r ≡ sized (memory-of keys words) → r ≡ true → Sized keys words
-sized-flag keys words r e q = sized-is (memory-of keys words) (sym e ∙ q)
-
 pub below-flag : (count w : ℕ) (r : Bool) → r ≡ worker-fits count w → r ≡ true → w < 8
 below-flag count w r e q = worker-below count w (sym e ∙ q)
 
@@ -64,9 +49,6 @@ range-flag most n = flag (one-to most n)
 
 pub worker-flag : (count w : ℕ) (r t : Bool) → r ≡ worker-fits count w → r ≡ t → worker-fits count w ≡ t
 worker-flag count w = flag (worker-fits count w)
-
-pub size-flag : (m : Memory) (r t : Bool) → r ≡ sized m → r ≡ t → sized m ≡ t
-size-flag m = flag (sized m)
 
 pub key-flag : (code : ℕ) (k l k′ l′ : ℤ) (r t : Bool) → r ≡ key-refused code k′ l′ → k′ ≡ k → l′ ≡ l → r ≡ t → key-refused code k l ≡ t
 key-flag code k l k′ l′ r t e a b q = ap₂ (key-refused code) (sym a) (sym b) ∙ sym e ∙ q

@@ -23,7 +23,8 @@ use Rattle.catalogue.specs.declared.steps.Decision.the-variants.{Torn, Code, Go
 use Rattle.memory.specs.Memories.{Hold, Writable}
 use Rattle.calls.specs.Promised.{Steps}
 use Rattle.memory.proofs.Laid.{view-held}
-use Rattle.calls.proofs.Outcomes.{sized-is, below-flag, sized-flag}
+use Rattle.memory.proofs.Sizes.{sized-is, sized-flag}
+use Rattle.calls.proofs.Outcomes.{below-flag}
 use Rattle.steps.specs.Follows.{Follows}
 use Rattle.steps.proofs.Made.{decide-follows}
 

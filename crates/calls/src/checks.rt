@@ -2,13 +2,11 @@
 ghost use mathlib.Core.Path.{_≡_};
 ghost use Rattle.catalogue.specs.Tests.{one-to};
 ghost use Rattle.catalogue.specs.Calls.{worker-fits};
-ghost use Rattle.catalogue.specs.Lent.{memory-of, sized, refused};
+ghost use Rattle.catalogue.specs.Lent.{refused};
 use catalogue::answers::Answer;
 use catalogue::answers::Outcome;
 use catalogue::answers::Refusal;
 use catalogue::workers::Table;
-use memory::KEYS_SIZE;
-use memory::WORDS_SIZE;
 
 // A refusal leaves the table as it was.
 pub fn refuse(table: Table, refusal: Refusal) -> Outcome
@@ -18,19 +16,6 @@ pub fn refuse(table: Table, refusal: Refusal) -> Outcome
         table,
         answer: Answer::Refused { refusal },
     }
-}
-
-// 20: both slices are of the stated sizes.
-pub fn sized(keys: &[i32], words: &[u32]) -> bool
-    ensures { λ r. ⌜ r ≡ sized (memory-of (now (keys .entry)) (now (words .entry))) ⌝ }
-{
-    if keys.len() == KEYS_SIZE {
-        if words.len() == WORDS_SIZE {
-            return true;
-        }
-        return false;
-    }
-    false
 }
 
 // A number is 1 to another: a count of workers (21), a code (24).

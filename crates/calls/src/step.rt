@@ -2,12 +2,12 @@
 ghost use Rattle.catalogue.specs.Lent.{memory-of};
 ghost use Rattle.calls.specs.Promised.{Steps};
 use crate::checks::refuse;
-use crate::checks::sized;
 use crate::checks::worker_fits;
 use crate::record::step_record;
 use catalogue::answers::Outcome;
 use catalogue::answers::Refusal;
 use catalogue::workers::Table;
+use memory::checks::sized;
 use workers::requests::busy_at;
 use workers::table::put;
 use workers::table::worker_at;

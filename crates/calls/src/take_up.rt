@@ -6,13 +6,13 @@ ghost use Rattle.catalogue.specs.Lent.{Sized, memory-of, catalogue-in, outcome-
 ghost use Rattle.calls.specs.Promised.{Takes-up};
 use crate::checks::one_to;
 use crate::checks::refuse;
-use crate::checks::sized;
 use crate::checks::worker_fits;
 use catalogue::answers::Answer;
 use catalogue::answers::Outcome;
 use catalogue::answers::Refusal;
 use catalogue::links::VertexLink;
 use catalogue::workers::Table;
+use memory::checks::sized;
 use memory::reads::vertex_link;
 use steps::keys::key_refused;
 use steps::places::first_place;

@@ -3,3 +3,4 @@ pub mod Rules
 pub mod Picks
 pub mod Ways
 pub mod Pools
+pub mod Leads

@@ -16,6 +16,11 @@ use Rattle.catalogue.specs.declared.links.Target.the-variants as target
 pub clash : {A : Type 0} → _≡_ {A = ℕ} 0 1 → A
 clash e = absurd (omega arith)
 
+-- both of two tests hold where the one picked by them does
+pub both-true : (a b : Bool) → pick a b false ≡ true → (a ≡ true) × (b ≡ true)
+both-true true b e = (refl, e)
+both-true false b e = clash (cc)
+
 module _ {A : Type 0} (P : A → Type 0) where
   pub pick-both : (t : Bool) (a b : A) → (t ≡ true → P a) → (t ≡ false → P b) → P (pick t a b)
   pick-both true a b f g = f refl

@@ -1,5 +1,5 @@
 -- A count of what a walk keeps, by the cases of the recursion. Assumes nothing.
-use Prim.Native.Nat.{ℕ, _+_, _*_, _-_, _≤_, _<_}
+use Prim.Native.Nat.{ℕ, _+_, _*_, _-_, _≤_}
 use mathlib.Core.Bool.{Bool, true, false}
 use mathlib.Core.List.{List, [], _∷_, _++_}
 use mathlib.Core.Path.{_≡_, sym, ap, _∙_}
@@ -9,16 +9,13 @@ use mir.Val.{Fits}
 use lib.ListN.{length, length-append}
 use borrow.Author.Needs.{needs}
 use Rattle.catalogue.specs.Live.{gather}
+use Rattle.survey.proofs.WalkLaws.{falls}
 use Rattle.listing.specs.Walks.{kept-from}
 use Rattle.listing.proofs.Kept.{gather-none, gather-first, none-left, at-end, going-on, kept-short}
 
 -- a walk from a node that was read
 pub same-walk : (next : ℕ → ℕ) (end : ℕ) (test : ℕ → Bool) (fuel first x : ℕ) → first ≡ x → kept-from next end test fuel first ≡ kept-from next end test fuel x
 same-walk next end test fuel first x e = ap (kept-from next end test fuel) e
-
--- the fuel falls
-pub burns : (fuel t : ℕ) → fuel ≡ t → (fuel ≡ 0 → ⊥) → fuel - 1 < t
-burns fuel t e some = omega arith
 
 module _ (next : ℕ → ℕ) (end : ℕ) (test : ℕ → Bool) (fuel x : ℕ) where
   pub count-none : fuel ≡ 0 → 0 ≡ length (kept-from next end test fuel x)
@@ -39,7 +36,7 @@ pub count-fits : (next : ℕ → ℕ) (end : ℕ) (test : ℕ → Bool) (fuel y 
     → rest ≡ length (kept-from next end test (fuel - 1) y) → Fits w64 (rest + 1)
 count-fits next end test fuel y rest f counted = record { fits = omega (arith, f .fits, counted, kept-short next end test (fuel - 1) y) }
 
-pub ruleset count-cases = (count-none, count-end, count-kept, count-left, count-fits, burns, needs)
+pub ruleset count-cases = (count-none, count-end, count-kept, count-left, count-fits, falls, needs)
 
 -- the same where a node stands for a list of its own
 module _ (next : ℕ → ℕ) (end : ℕ) (test : ℕ → Bool) (own : ℕ → List ℕ) (fuel x : ℕ) where
@@ -64,7 +61,7 @@ module _ (next : ℕ → ℕ) (end : ℕ) (test : ℕ → Bool) (own : ℕ → L
         ap (gather own) (going-on next end test fuel x y true r some e q h on) ∙ gather-first own x (kept-from next end test (fuel - 1) y) in
         omega (arith, c, counted, ap length e′, ap length whole, length-append (own x) others)
 
-gather-short : (own : ℕ → List ℕ) → ((n : ℕ) → length (own n) ≤ 2048) → (l : List ℕ) → length (gather own l) ≤ 2048 * length l
+pub gather-short : (own : ℕ → List ℕ) → ((n : ℕ) → length (own n) ≤ 2048) → (l : List ℕ) → length (gather own l) ≤ 2048 * length l
 gather-short own short [] = rw (gather-none own) (omega arith)
 gather-short own short (x ∷ xs) =
     omega (arith, ap length (gather-first own x xs), length-append (own x) (gather own xs), short x, gather-short own short xs)
@@ -79,4 +76,4 @@ owned-fits next end test own fuel y rest here next′ end′ test′ first f cou
       fits = omega (arith, f .fits, c, counted, kept-short next′ end′ test′ 2048 first, kept-short next end test (fuel - 1) y, gather-short own short many);
     }
 
-pub ruleset owned-cases = (owned-none, owned-end, owned-left, owned-kept, owned-fits, kept-short, same-walk, burns, needs)
+pub ruleset owned-cases = (owned-none, owned-end, owned-left, owned-kept, owned-fits, kept-short, same-walk, falls, needs)

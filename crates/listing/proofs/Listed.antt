@@ -17,8 +17,9 @@ use Rattle.text.proofs.Runs.{put-then, end-then}
 use Rattle.text.proofs.LineLaws.{length-line}
 use Rattle.listing.specs.Walks.{kept-from, vertex-line, edge-line}
 use Rattle.survey.proofs.Lives.{live-in-pool}
+use Rattle.survey.proofs.WalkLaws.{falls}
 use Rattle.listing.proofs.Kept.{gather-none, gather-first, none-left, at-end, going-on}
-use Rattle.listing.proofs.Counts.{burns, same-walk}
+use Rattle.listing.proofs.Counts.{same-walk}
 
 -- a number as it is passed on
 abbrev read : ℤ → ℤ
@@ -147,9 +148,15 @@ module _ (next : ℕ → ℕ) (end : ℕ) (test : ℕ → Bool) (fuel x y at : �
     edge-room mid a b m h began f g long = omega (arith, one-more h, pair-wide a b f g)
 
   -- the same where a node stands for the edges of a vertex
-  module _ (edges : ℕ → List ℕ) (l : List ℕ) (room : at + 24 * length (gather edges all) ≤ length l) where
-    pub edges-left : r ≡ false → at + 24 * length (gather edges rest) ≤ length l
-    edges-left h = omega (arith, ap (λ k. length (gather edges k)) (going-on next end test fuel x y false r some e q h on))
+  module _ (edges : ℕ → List ℕ) where
+    none : r ≡ false → length (gather edges all) ≡ length (gather edges rest)
+    none h = ap (λ k. length (gather edges k)) (going-on next end test fuel x y false r some e q h on)
+
+    pub edges-left : (l : List ℕ) → at + 24 * length (gather edges all) ≤ length l → r ≡ false → at + 24 * length (gather edges rest) ≤ length l
+    edges-left l room h = omega (arith, none h)
+
+    pub edges-left-within : (last : ℕ) → r ≡ false → last ≤ at + 24 * length (gather edges rest) → last ≤ at + 24 * length (gather edges all)
+    edges-left-within last h within = omega (arith, none h)
 
     module _ (here : List ℕ) (h : r ≡ true) (these : here ≡ edges x) where
       both : length (gather edges all) ≡ length here + length (gather edges rest)
@@ -157,11 +164,15 @@ module _ (next : ℕ → ℕ) (end : ℕ) (test : ℕ → Bool) (fuel x y at : �
           ap (λ k. length (gather edges k)) (going-on next end test fuel x y true r some e q h on) ∙ ap length (gather-first edges x rest)
           ∙ length-append (edges x) (gather edges rest) ∙ ap (λ k. length k + length (gather edges rest)) (sym these)
 
-      pub edges-room : at + 24 * length here ≤ length l
-      edges-room = omega (arith, both)
+      pub edges-within : (mid last : ℕ) → mid ≤ at + 24 * length here → last ≤ mid + 24 * length (gather edges rest) → last ≤ at + 24 * length (gather edges all)
+      edges-within mid last first second = omega (arith, both)
 
-      pub edges-rest : (mid : ℕ) (m : List ℕ) → mid ≤ at + 24 * length here → length m ≡ length l → mid + 24 * length (gather edges rest) ≤ length m
-      edges-rest mid m within long = omega (arith, both)
+      module _ (l : List ℕ) (room : at + 24 * length (gather edges all) ≤ length l) where
+        pub edges-room : at + 24 * length here ≤ length l
+        edges-room = omega (arith, both)
+
+        pub edges-rest : (mid : ℕ) (m : List ℕ) → mid ≤ at + 24 * length here → length m ≡ length l → mid + 24 * length (gather edges rest) ≤ length m
+        edges-rest mid m within long = omega (arith, both)
 
 -- a walk that puts nothing
 pub none-within : (at n : ℕ) → at ≤ at + n
@@ -189,11 +200,11 @@ pub ruleset list-cases = (
   left-room,
   edge-room,
   live-in-pool,
-  burns,
+  falls,
   needs,
 )
 
-pub ruleset gather-cases = (edges-here, same-walk, edges-left, edges-room, edges-rest, list-cases)
+pub ruleset gather-cases = (edges-here, same-walk, edges-left, edges-left-within, edges-within, edges-room, edges-rest, list-cases)
 
 -- the fewest that put the lines of a vertex's edges
 pub ruleset edges-put = (refl, kept-put, kept-end, edges-here, sfits-of)

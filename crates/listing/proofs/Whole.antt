@@ -18,7 +18,7 @@ use Rattle.survey.specs.Walks.{linked}
 use Rattle.listing.specs.Walks.{kept-from, vertex-line, edge-line, unmarked-from, vertex-text, edges-text, live-of, added-of}
 use Rattle.listing.proofs.Listed.{had-room}
 
-lines-append : (a b : List (List ℤ)) → lines (a ++ b) ≡ lines a ++ lines b
+pub lines-append : (a b : List (List ℤ)) → lines (a ++ b) ≡ lines a ++ lines b
 unfolding lines
 lines-append [] b = refl
 lines-append (l ∷ a) b = ap (λ t. line l ++ t) (lines-append a b) ∙ sym (append-assoc (line l) (lines a) (lines b))
@@ -70,11 +70,17 @@ module _ (words : List ℕ) (n : ℕ) (from : n ≡ next-vertex (linked words) h
   added-counted r e =
       e ∙ ap (λ m. length (gather (added-of (linked words)) (unmarked-from (linked words) vertex-pool m))) from ∙ ap length (whole-added (linked words))
 
+  live-all : length (gather (live-of (linked words)) (unmarked-from (linked words) vertex-pool n)) ≡ length (gather (live-edges-of (linked words)) (live-vertices (linked words)))
+  live-all =
+      ap (λ k. length (gather (live-of (linked words)) (unmarked-from (linked words) vertex-pool k))) from ∙ ap length (whole-live (linked words))
+
   pub edges-room : (at mid : ℕ) (l m : List ℕ) → at + 3072 + 24 * length (gather (live-edges-of (linked words)) (live-vertices (linked words))) ≤ length l
       → mid ≤ at + 12 * vertex-pool → length m ≡ length l → mid + 24 * length (gather (live-of (linked words)) (unmarked-from (linked words) vertex-pool n)) ≤ length m
-  edges-room at mid l m room within long =
-      omega
-      (arith, ap (λ k. length (gather (live-of (linked words)) (unmarked-from (linked words) vertex-pool k))) from, ap length (whole-live (linked words)))
+  edges-room at mid l m room within long = omega (arith, live-all)
+
+  pub body-within : (at mid last : ℕ) → mid ≤ at + 12 * vertex-pool → last ≤ mid + 24 * length (gather (live-of (linked words)) (unmarked-from (linked words) vertex-pool n))
+      → last ≤ at + 3072 + 24 * length (gather (live-edges-of (linked words)) (live-vertices (linked words)))
+  body-within at mid last first second = omega (arith, live-all)
 
   module _ (keys : List ℤ) (at mid : ℕ) (began : mid ≡ at + length (vertex-text (catalogue-in keys words) vertex-pool n)) where
     abbrev C : Catalogue
@@ -103,4 +109,4 @@ module _ (words : List ℕ) (n : ℕ) (from : n ≡ next-vertex (linked words) h
     pub body-end : (last : ℕ) → last ≡ mid + length edge-part → last ≡ at + length (lines (vertex-lines C ++ edge-lines C))
     body-end last two = end-then at mid vertex-part edge-part began last two ∙ ap (λ b. at + length b) parts
 
-pub ruleset whole-cases = (vertices-counted, added-counted, edges-room, body-put, body-end, needs)
+pub ruleset whole-cases = (vertices-counted, added-counted, edges-room, body-within, body-put, body-end, needs)

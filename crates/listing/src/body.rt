@@ -37,6 +37,7 @@ pub fn list_body(keys: &[i32], words: &[u32], output: &mut [u8], at: usize) -> u
     requires { ⌜ at + 3072 + 24 * length (gather (live-edges-of (linked (now words))) (live-vertices (linked (now words)))) ≤ length (now output) ⌝ }
     ensures { λ r. ⌜ now (output .exit) ≡ put-at (now (output .entry)) at (lines (vertex-lines (catalogue-in (now (keys .entry)) (now (words .entry))) ++ edge-lines (catalogue-in (now (keys .entry)) (now (words .entry))))) ⌝ }
     ensures { λ r. ⌜ r ≡ at + length (lines (vertex-lines (catalogue-in (now (keys .entry)) (now (words .entry))) ++ edge-lines (catalogue-in (now (keys .entry)) (now (words .entry))))) ⌝ }
+    ensures { λ r. ⌜ r ≤ at + 3072 + 24 * length (gather (live-edges-of (linked (now (words .entry)))) (live-vertices (linked (now (words .entry))))) ⌝ }
 {
     let first = next_vertex(words, 0);
     let end = list_vertices(keys, words, output, at, first, 256);

@@ -149,6 +149,7 @@ pub fn list_edges(
     requires { ⌜ at + 24 * length (gather (live-of (linked (now words))) (unmarked-from (linked (now words)) fuel x)) ≤ length (now output) ⌝ }
     ensures { λ r. ⌜ now (output .exit) ≡ put-at (now (output .entry)) at (edges-text (catalogue-in (now (keys .entry)) (now (words .entry))) fuel x) ⌝ }
     ensures { λ r. ⌜ r ≡ at + length (edges-text (catalogue-in (now (keys .entry)) (now (words .entry))) fuel x) ⌝ }
+    ensures { λ r. ⌜ r ≤ at + 24 * length (gather (live-of (linked (now (words .entry)))) (unmarked-from (linked (now (words .entry))) fuel x)) ⌝ }
 {
     if fuel == 0 {
         return at;

@@ -1,19 +1,19 @@
 -- What stands in laid memory at each place is the field of the catalogue at its number, and a list that agrees with all fields is that memory. Assumes nothing.
 use Prim.Native.Nat.{ℕ, zero, suc, _+_, _-_, _<_, _≤_}
-use mathlib.Core.Bool.{Bool, true, false, false≢true}
+use mathlib.Core.Bool.{Bool, true, false}
 use mathlib.Core.List.{List}
 use mathlib.Core.Path.{_≡_, refl, sym, subst, _∙_}
 use native.Mathlib.Omega.{arith}
 use lib.IntN.{ℤ, pos}
 use lib.ListN.{length, getD, length-append}
 use lib.Seq.{ext-getD}
-use lib.Dec.{ltb, eqb}
+use lib.Dec.{ltb}
 use native.Mathlib.Nat.{add-sub-of-le}
-use borrow.Author.Tests.{ltb-true, ltb-false, eqb-true}
-use Rattle.catalogue.specs.Tests.{pick}
+use borrow.Author.Tests.{ltb-true, ltb-false}
 use Rattle.catalogue.specs.Catalogue.{Catalogue}
 use Rattle.catalogue.specs.Lent.{Memory, keys-size, words-size, vertex-count, edge-count, vkeys, ekeys, vlinks, firsts, targets, elinks, view, lay, sized, catalogue-in}
 use Rattle.memory.specs.Memories.{Hold}
+use Rattle.memory.proofs.Sizes.{sized-is}
 use Rattle.memory.proofs.Tables.{length-table, getD-table, getD-front, getD-behind}
 
 -- where the tables of the words begin, behind the two counts
@@ -123,11 +123,7 @@ view-held keys words hk hw =
     )
 
 pub lay-view : (m : Memory) → sized m ≡ true → lay (view m) ≡ m
-unfolding sized
-lay-view m e = by (eqb (length (m .keys)) keys-size) refl e
-  where
-    by : (t : Bool) → eqb (length (m .keys)) keys-size ≡ t → pick t (eqb (length (m .words)) words-size) false ≡ true → lay (view m) ≡ m
-    by true k w =
-        let held = view-held (m .keys) (m .words) (eqb-true (length (m .keys)) keys-size k) (eqb-true (length (m .words)) words-size w) in
-        λ i. record { keys = sym (held .0) i; words = sym (held .1) i }
-    by false k w = absurd (false≢true w)
+lay-view m e =
+    let s = sized-is m e in
+    let held = view-held (m .keys) (m .words) (s .keyed) (s .worded) in
+    λ i. record { keys = sym (held .0) i; words = sym (held .1) i }

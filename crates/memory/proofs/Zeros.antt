@@ -1,12 +1,12 @@
 -- Memory of zeros is that of a catalogue of zeros, which the head's key and the head's link make the fresh one; and what a call for it leaves. Assumes nothing.
 use Prim.Native.Nat.{ℕ, _+_, _<_}
+use mathlib.Core.Bool.{true, false}
 use mathlib.Core.List.{List}
 use mathlib.Core.Path.{_≡_, refl}
 use native.Mathlib.Omega.{arith}
 use lib.IntN.{ℤ, pos}
 use lib.ListN.{length, getD, set, replicate, length-replicate, getD-replicate}
 use lib.Dec.{lit<}
-use borrow.Author.Tests.{eq-eqb, ne-eqb}
 use Rattle.catalogue.specs.Numbers.{link, least, head, tail, plain}
 use Rattle.catalogue.specs.Catalogue.{Catalogue, fresh}
 use Rattle.catalogue.specs.Lent.{Memory, lay, sized, lent-fresh, keys-size, words-size}
@@ -48,18 +48,13 @@ zero-words size words s e =
     (λ n h. at (514 + n) (omega arith)) (λ n h. at (2562 + n) (omega arith))
 
 module _ (m : Memory) where
-  pub keys-refused : (length (m .keys) ≡ keys-size → ⊥) → Makes-fresh m (made.Refused refusal.Room) (m .keys) (m .words)
-  unfolding lent-fresh sized
-  keys-refused h = rw (ne-eqb (length (m .keys)) keys-size h) (refl, (refl, refl))
+  pub left-unsized : sized m ≡ false → Makes-fresh m (made.Refused refusal.Room) (m .keys) (m .words)
+  unfolding lent-fresh
+  left-unsized h = rw h (refl, (refl, refl))
 
-  module _ (hk : length (m .keys) ≡ keys-size) where
-    pub words-refused : (length (m .words) ≡ words-size → ⊥) → Makes-fresh m (made.Refused refusal.Room) (m .keys) (m .words)
-    unfolding lent-fresh sized
-    words-refused h = rw (eq-eqb (length (m .keys)) keys-size hk, ne-eqb (length (m .words)) words-size h) (refl, (refl, refl))
-
-    pub fresh-made : (keys : List ℤ) (words : List ℕ) → length (m .words) ≡ words-size → Hold keys words fresh → Makes-fresh m made.Done keys words
-    unfolding lent-fresh sized
-    fresh-made keys words hw held = rw (eq-eqb (length (m .keys)) keys-size hk, eq-eqb (length (m .words)) words-size hw) (refl, held)
+  pub made-fresh : (keys : List ℤ) (words : List ℕ) → sized m ≡ true → Hold keys words fresh → Makes-fresh m made.Done keys words
+  unfolding lent-fresh
+  made-fresh keys words h held = rw h (refl, held)
 
 pub fresh-laid : (keys k₁ k₂ : List ℤ) (words w₁ w₂ : List ℕ) (key : ℤ) → length keys ≡ keys-size → length words ≡ words-size
     → k₁ ≡ replicate (length keys) (pos 0) → k₂ ≡ set k₁ head key → key ≡ least

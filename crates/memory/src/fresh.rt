@@ -6,8 +6,7 @@ ghost use Rattle.catalogue.specs.Catalogue.{fresh};
 ghost use Rattle.catalogue.specs.Lent.{memory-of};
 ghost use Rattle.memory.specs.Promised.{Makes-fresh};
 ghost use Rattle.memory.specs.Memories.{Hold};
-use crate::KEYS_SIZE;
-use crate::WORDS_SIZE;
+use crate::checks::sized;
 use crate::writes::put_vertex_key;
 use crate::writes::put_vertex_link;
 use catalogue::answers::Made;
@@ -49,16 +48,11 @@ pub fn lay_fresh(keys: &mut [i32], words: &mut [u32])
 pub fn fresh(keys: &mut [i32], words: &mut [u32]) -> Made
     ensures { λ r. ⌜ Makes-fresh (memory-of (now (keys .entry)) (now (words .entry))) r (now (keys .exit)) (now (words .exit)) ⌝ }
 {
-    if keys.len() != KEYS_SIZE {
-        return Made::Refused {
-            refusal: Refusal::Room,
-        };
+    if sized(keys, words) {
+        lay_fresh(keys, words);
+        return Made::Done;
     }
-    if words.len() != WORDS_SIZE {
-        return Made::Refused {
-            refusal: Refusal::Room,
-        };
+    Made::Refused {
+        refusal: Refusal::Room,
     }
-    lay_fresh(keys, words);
-    Made::Done
 }

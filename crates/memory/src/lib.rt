@@ -1,4 +1,5 @@
 // The lent catalogue: the only crate that knows where a field stands in the two lent slices.
+pub mod checks;
 pub mod fresh;
 pub mod reads;
 pub mod writes;

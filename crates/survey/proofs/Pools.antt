@@ -1,65 +1,29 @@
--- What a whole link leads to lies in its pool, and so does where a walk goes on. Assumes nothing.
-use Prim.Native.Nat.{ℕ, _<_, _/_, _%_}
-use mathlib.Core.Bool.{Bool}
+-- Where a link that the code took apart leads, and where a walk goes on, lies in its pool. Assumes nothing.
+use Prim.Native.Nat.{ℕ, _<_}
 use mathlib.Core.Path.{_≡_, sym, _∙_, subst}
-use borrow.Author.Tests.{ltb-true}
 use native.Mathlib.Omega.{arith}
-use lib.Dec.{ltb, eqb}
-use Rattle.catalogue.specs.Numbers.{vertex-pool, edge-pool, tail, edge-tail, vertex-tag, edge-tag, first-tag, apart}
-use Rattle.catalogue.specs.Catalogue.{Catalogue, vertex-link-in, edge-link-in, first-link-in, vertex-link, at-edge}
+use Rattle.catalogue.specs.Numbers.{tail, edge-tail}
+use Rattle.catalogue.specs.Catalogue.{Catalogue, edge-link-in, first-link-in, vertex-link, at-edge}
 use Rattle.catalogue.specs.Live.{next-vertex}
-use Rattle.catalogue.specs.declared.links.VertexLink.{VertexLink}
-use Rattle.catalogue.specs.declared.links.VertexLink.the-variants as vertex
 use Rattle.catalogue.specs.declared.links.EdgeLink.{EdgeLink}
 use Rattle.catalogue.specs.declared.links.EdgeLink.the-variants as edge
-use Rattle.catalogue.proofs.Picks.{pick-both, vertex-both, edge-both}
-
--- a word taken apart, where the node lies in its pool
-apart-both : {A : Type 0} (P : A → Type 0) (pool : ℕ) (allowed : ℕ → Bool) (word : ℕ) (torn : A) (at : ℕ → ℕ → A)
-    → P torn → (word / 4 < pool → P (at (word / 4) (word % 4))) → P (apart pool allowed word torn at)
-apart-both P pool allowed word torn at p f =
-    pick-both P (ltb (word / 4) pool) _ _
-    (λ e. pick-both P (allowed (word % 4)) _ _ (λ g. f (ltb-true (word / 4) pool e)) (λ g. p))
-    (λ e. p)
-
-abbrev To-edge : EdgeLink → Type 0
-To-edge (edge.At next tag) = next < 2048
-To-edge edge.Torn = Unit {0}
-
-edge-leads : (words : ℕ → ℕ) (n : ℕ) → To-edge (edge-link-in words n)
-unfolding edge-link-in
-edge-leads words n =
-    pick-both To-edge (eqb n 0) _ _ (λ e. tt)
-    (λ e. pick-both To-edge (ltb n 2048) _ _ (λ e. apart-both To-edge edge-pool edge-tag (words n) edge.Torn edge.At tt (λ h. h)) (λ e. tt))
-
-first-leads : (words : ℕ → ℕ) (n : ℕ) → To-edge (first-link-in words n)
-unfolding first-link-in
-first-leads words n = apart-both To-edge edge-pool first-tag (words n) edge.Torn edge.At tt (λ h. h)
-
-abbrev To-vertex : VertexLink → Type 0
-To-vertex (vertex.At next tag) = next < 256
-To-vertex vertex.Torn = Unit {0}
-
-vertex-leads : (words : ℕ → ℕ) (n : ℕ) → To-vertex (vertex-link-in words n)
-unfolding vertex-link-in
-vertex-leads words n =
-    pick-both To-vertex (eqb n 1) _ _ (λ e. omega arith)
-    (λ e. apart-both To-vertex vertex-pool vertex-tag (words n) vertex.Torn vertex.At tt (λ h. h))
+use Rattle.catalogue.proofs.Picks.{vertex-both, edge-both}
+use Rattle.catalogue.proofs.Leads.{edge-next-in, first-next-in, vertex-next-in}
 
 -- a link that the code took apart
 module _ (words : ℕ → ℕ) (n next tag : ℕ) (r : EdgeLink) where
   pub edge-to : r ≡ edge-link-in words n → r ≡ edge.At next tag → next < 2048
-  edge-to e q = subst To-edge (sym e ∙ q) (edge-leads words n)
+  edge-to e q = edge-next-in words n next tag (sym e ∙ q)
 
   pub first-to : r ≡ first-link-in words n → r ≡ edge.At next tag → next < 2048
-  first-to e q = subst To-edge (sym e ∙ q) (first-leads words n)
+  first-to e q = first-next-in words n next tag (sym e ∙ q)
 
 -- where a walk goes on
 pub edge-goes : (words : ℕ → ℕ) (n y : ℕ) → y ≡ at-edge (edge-link-in words n) edge-tail (λ next tag. next) → y < 2048
 edge-goes words n y q =
     subst (λ (m : ℕ). m < 2048) (sym q)
-    (edge-both (λ m. m < 2048) (edge-link-in words n) edge-tail (λ next tag. next) (omega arith) (λ next tag e. subst To-edge e (edge-leads words n)))
+    (edge-both (λ m. m < 2048) (edge-link-in words n) edge-tail (λ next tag. next) (omega arith) (λ next tag e. edge-next-in words n next tag e))
 
 pub vertex-goes : (C : Catalogue) (n : ℕ) → next-vertex C n < 256
 vertex-goes C n =
-    vertex-both (λ m. m < 256) (vertex-link C n) tail (λ next tag. next) (omega arith) (λ next tag e. subst To-vertex e (vertex-leads (C .vlink) n))
+    vertex-both (λ m. m < 256) (vertex-link C n) tail (λ next tag. next) (omega arith) (λ next tag e. vertex-next-in (C .vlink) n next tag e)

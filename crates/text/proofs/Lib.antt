@@ -6,3 +6,4 @@ pub mod Spelling
 pub mod Magnitudes
 pub mod Signs
 pub mod LineLaws
+pub mod Naturals

@@ -17,7 +17,7 @@ same-length : tie.Need-same-length
 same-length c = search needs
 
 returns : tie.Need-returns
-returns c = (search whole-cases, search whole-cases)
+returns c = (search whole-cases, (search whole-cases, search whole-cases))
 
 pub list-body-spec : {M : Type 1} → statement M
 list-body-spec =

@@ -44,10 +44,10 @@ heard t = (
 )
 
 list-edges-returns : (t : ℕ) → list-edges-lts.Need-returns (heard t) (list-edges-at t) list-edges.Post
-list-edges-returns t c = (search gather-cases, search gather-cases)
+list-edges-returns t c = (search gather-cases, (search gather-cases, search gather-cases))
 
 list-edges-returns-2 : (t : ℕ) → list-edges-lts.Need-returns-2 (heard t) (list-edges-at t) list-edges.Post
-list-edges-returns-2 t c = (search gather-cases, search gather-cases)
+list-edges-returns-2 t c = (search gather-cases, (search gather-cases, search gather-cases))
 
 list-edges-next-vertex-requires : (t : ℕ) → list-edges-lts.Need-next-vertex-requires (heard t) (list-edges-at t) list-edges.Post
 list-edges-next-vertex-requires t c κs = search needs
@@ -74,7 +74,7 @@ list-edges-same-length : (t : ℕ) → list-edges-lts.Need-same-length (heard t)
 list-edges-same-length t c = search gather-cases
 
 list-edges-returns-3 : (t : ℕ) → list-edges-lts.Need-returns-3 (heard t) (list-edges-at t) list-edges.Post
-list-edges-returns-3 t c = (search edges-put, search edges-put)
+list-edges-returns-3 t c = (search edges-put, (search edges-put, search gather-cases))
 
 list-edges-sub-list-edges-2 : (t : ℕ) → list-edges-lts.Need-sub-list-edges-2 (heard t) (list-edges-at t) list-edges.Post
 list-edges-sub-list-edges-2 t c = search needs
@@ -86,7 +86,7 @@ list-edges-same-length-2 : (t : ℕ) → list-edges-lts.Need-same-length-2 (hear
 list-edges-same-length-2 t c = search gather-cases
 
 list-edges-returns-4 : (t : ℕ) → list-edges-lts.Need-returns-4 (heard t) (list-edges-at t) list-edges.Post
-list-edges-returns-4 t c = (search gather-cases, search gather-cases)
+list-edges-returns-4 t c = (search gather-cases, (search gather-cases, search gather-cases))
 
 pub +list-edges-spec : {M : Type 1} → statement M
 +list-edges-spec = close μ-list-edges λ t. list-edges-lts.spec (heard t)

@@ -1,17 +1,15 @@
--- The two tests of the sizes are those of the definition. Assumes nothing.
-use Rattle.memory.proofs.Zeros.{keys-refused, words-refused, fresh-made}
+-- The flag of the check is the test of the definition. Assumes nothing.
+use Rattle.memory.proofs.Sizes.{size-flag, keyed-flag, worded-flag}
+use Rattle.memory.proofs.Zeros.{left-unsized, made-fresh}
 use borrow.Author.Needs.{needs}
 use Rattle.memory.proofs.fresh.fresh.Statement.{statement}
 use Rattle.memory.proofs.fresh.fresh.Tie as tie
 
-returns : tie.Need-returns
-returns c = keys-refused _ (c .if1 .taken)
-
-returns-2 : tie.Need-returns-2
-returns-2 c = words-refused _ (search) (c .if2 .taken)
+sized-requires : tie.Need-sized-requires
+sized-requires c κs = search needs
 
 lay-fresh-requires : tie.Need-lay-fresh-requires
-lay-fresh-requires c κs = search needs
+lay-fresh-requires c κs = search (keyed-flag, worded-flag)
 
 same-length : tie.Need-same-length
 same-length c = search needs
@@ -19,9 +17,27 @@ same-length c = search needs
 same-length-2 : tie.Need-same-length-2
 same-length-2 c = search needs
 
-returns-3 : tie.Need-returns-3
-returns-3 c = fresh-made _ (search) _ _ (search) (search)
+returns : tie.Need-returns
+returns c = made-fresh _ _ _ (search size-flag) (search)
+
+same-length-3 : tie.Need-same-length-3
+same-length-3 c = search needs
+
+same-length-4 : tie.Need-same-length-4
+same-length-4 c = search needs
+
+returns-2 : tie.Need-returns-2
+returns-2 c = left-unsized _ (search size-flag)
 
 pub fresh-spec : {M : Type 1} → statement M
 fresh-spec =
-    tie.close (tie.spec returns returns-2 lay-fresh-requires same-length same-length-2 returns-3)
+    tie.close
+    (tie.spec
+    sized-requires
+    lay-fresh-requires
+    same-length
+    same-length-2
+    returns
+    same-length-3
+    same-length-4
+    returns-2)

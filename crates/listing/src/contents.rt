@@ -1,0 +1,26 @@
+// The first line of a result: how many replies, live vertices and ADDED edges there are.
+ghost use mathlib.Core.Path.{_≡_};
+ghost use mathlib.Core.List.{[], _∷_};
+ghost use Prim.Native.Nat.{_+_, _≤_};
+ghost use lib.IntN.{pos};
+ghost use lib.ListN.{length};
+ghost use Rattle.catalogue.specs.Listing.{added-edges};
+ghost use Rattle.catalogue.specs.Live.{live-vertices};
+ghost use Rattle.catalogue.specs.Text.{line};
+ghost use Rattle.survey.specs.Walks.{linked};
+ghost use Rattle.text.specs.Puts.{put-at};
+use crate::body::added_edges;
+use crate::body::live_vertices;
+use text::lines::put_three;
+
+pub fn put_contents(words: &[u32], output: &mut [u8], at: usize, replies: u32) -> usize
+    requires { ⌜ length (now words) ≡ 4610 ⌝ }
+    requires { ⌜ at + 36 ≤ length (now output) ⌝ }
+    ensures { λ r. ⌜ now (output .exit) ≡ put-at (now (output .entry)) at (line (pos replies ∷ (pos (length (live-vertices (linked (now (words .entry))))) ∷ (pos (length (added-edges (linked (now (words .entry))))) ∷ [])))) ⌝ }
+    ensures { λ r. ⌜ r ≡ at + length (line (pos replies ∷ (pos (length (live-vertices (linked (now (words .entry))))) ∷ (pos (length (added-edges (linked (now (words .entry))))) ∷ [])))) ⌝ }
+    ensures { λ r. ⌜ r ≤ at + 36 ⌝ }
+{
+    let vertices = live_vertices(words);
+    let edges = added_edges(words);
+    put_three(output, at, replies, vertices as u32, edges as u32)
+}

@@ -1,0 +1,21 @@
+-- A number with a space behind it and the line of the other three are the line of all. Assumes nothing.
+use Rattle.text.proofs.Naturals.{natural-cases}
+use borrow.Author.Needs.{needs}
+use Rattle.text.proofs.lines.put_four.Statement.{statement}
+use Rattle.text.proofs.lines.put_four.Tie as tie
+
+put-natural-followed-requires : tie.Need-put-natural-followed-requires
+put-natural-followed-requires c κs = search needs
+
+put-three-requires : tie.Need-put-three-requires
+put-three-requires c κs = search natural-cases
+
+same-length : tie.Need-same-length
+same-length c = search needs
+
+returns : tie.Need-returns
+returns c = (search natural-cases, search natural-cases)
+
+pub put-four-spec : {M : Type 1} → statement M
+put-four-spec =
+    tie.close (tie.spec put-natural-followed-requires put-three-requires same-length returns)
