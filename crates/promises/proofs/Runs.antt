@@ -1,0 +1,8 @@
+-- What holds at the start is kept by every choice of a run.
+pub mod Held
+pub mod Fresh
+pub mod Done
+pub mod Stepping
+pub mod Taking
+pub mod Sweeping
+pub mod Course

@@ -1,0 +1,136 @@
+-- A choice to take up a request: where it is refused nothing changes, and else the machine's worker stands where the request begins. Assumes nothing.
+use Prim.Native.Nat.{ℕ, zero, suc, _≤_, _<_}
+use mathlib.Core.Bool.{Bool, true, false, not, _&&_}
+use mathlib.Core.Path.{_≡_, refl, sym, _∙_}
+use mathlib.Core.Logic.{inl, inr}
+use native.Mathlib.Omega.{arith}
+use borrow.Author.Tests.{leb-true, lt-ltb}
+use lib.IntN.{ℤ}
+use lib.Dec.{T, leb}
+use lib.Signed.{ltZ}
+use Rattle.catalogue.specs.Tests.{pick, upd, eqZ}
+use Rattle.catalogue.specs.Numbers.{least, greatest, reserved}
+use Rattle.catalogue.specs.Calls.{After, start-up, take-up}
+use Rattle.catalogue.specs.Runs.{Moment}
+use Rattle.catalogue.specs.Workers.{worker-at, put, busy, bare}
+use Rattle.catalogue.specs.Steps.Places.{code-known, key-refused, first-place}
+use Rattle.catalogue.specs.declared.answers.Refusal.the-variants as refusal
+use Rattle.catalogue.specs.declared.answers.Answer.the-variants as answer
+use Rattle.catalogue.specs.declared.workers.Worker.{Worker}
+use Rattle.catalogue.proofs.Picks.{pick-both}
+use Rattle.row.specs.Base.{clash}
+use Rattle.row.specs.LiveSet.{eqZ-yes, not-below}
+use Rattle.row.specs.Machine.{addV, remV, conV}
+use Rattle.row.specs.World.{World, Ask, vert, addE, remE, conE, resting, Conf, takes, act, starts, allowed, takable, fits-key}
+use Rattle.row.specs.Course.{Fine6, act-fine6}
+use Rattle.promises.specs.Moments.{Key}
+use Rattle.promises.proofs.Showing.Shows.{Shown}
+use Rattle.promises.proofs.Showing.Tests.{neither, second}
+use Rattle.promises.proofs.Runs.Held.{Held, busy-is}
+use Rattle.promises.proofs.Runs.Done.{held-with, Done, refused, in-table}
+
+-- ---- keys
+
+truly : (b : Bool) → T b → b ≡ true
+truly true t = refl
+truly false t = absurd t
+
+-- a key that is not reserved
+fitting : (k : ℤ) → Key k → reserved k ≡ false → fits-key k ≡ true
+unfolding reserved
+fitting k h r = rw (above, below)
+  where
+    above : ltZ least k ≡ true
+    above =
+        elim (not-below k least (h .low)) [
+          | inl e ↦ clash (cc (sym (eqZ-yes k least e) ∙ neither (eqZ k least) (eqZ k greatest) r .0))
+          | inr l ↦ truly (ltZ least k) (l .lt)
+        ]
+
+    below : ltZ k greatest ≡ true
+    below =
+        elim (not-below greatest k (h .high)) [
+          | inl e ↦ clash (cc (sym (eqZ-yes k greatest (sym e)) ∙ neither (eqZ k least) (eqZ k greatest) r .1))
+          | inr l ↦ truly (ltZ k greatest) (l .lt)
+        ]
+
+-- ---- requests
+
+-- what the machine is asked for
+pub record Taken (W : World) (code : ℕ) (k l : ℤ) : Type 0 where
+  pub ask : Ask
+  pub fits : allowed ask ≡ true
+  pub shown : Shown (W .v .used) (bare (first-place code k l (W .v .next 0))) (starts W ask)
+
+module _ (W : World) (k l : ℤ) (hk : Key k) (hl : Key l) where
+  -- of a request with one key, and with two
+  one-free : pick (reserved k) true false ≡ false → fits-key k ≡ true
+  one-free e = fitting k hk (neither (reserved k) false e .0)
+
+  two-free : pick (reserved k) true (reserved l) ≡ false → (fits-key k && fits-key l) ≡ true
+  two-free e = let n = neither (reserved k) (reserved l) e in rw (fitting k hk (n .0), fitting l hl (n .1))
+
+  pub taken : (code : ℕ) → code-known code ≡ true → key-refused code k l ≡ false → Taken W code k l
+  unfolding key-refused first-place
+  taken zero e r = clash (cc)
+  taken (suc zero) e r = record { ask = vert (addV k); fits = one-free r; shown = record { asked = r; stands = refl } }
+  taken (suc (suc zero)) e r = record { ask = vert (remV k); fits = one-free r; shown = record { asked = r; stands = refl } }
+  taken (suc (suc (suc zero))) e r = record { ask = vert (conV k); fits = one-free r; shown = record { asked = r; stands = refl } }
+  taken (suc (suc (suc (suc zero)))) e r = record { ask = addE k l; fits = two-free r; shown = record { asked = r; stands = refl } }
+  taken (suc (suc (suc (suc (suc zero))))) e r = record { ask = remE k l; fits = two-free r; shown = record { asked = r; stands = refl } }
+  taken (suc (suc (suc (suc (suc (suc zero)))))) e r = record { ask = conE k l; fits = two-free r; shown = record { asked = r; stands = refl } }
+  taken (suc (suc (suc (suc (suc (suc (suc n))))))) e r =
+      let code : ℕ = suc (suc (suc (suc (suc (suc (suc n)))))) in
+      absurd (omega (arith, leb-true code 6 (second (leb 1 code) (leb code 6) e)))
+
+-- ---- the call
+
+module _ (workers : ℕ) (m : Moment) (X : Conf) (h : Held workers m X) (most : workers ≤ 8) (v code : ℕ) (k l : ℤ) (hk : Key k) (hl : Key l) where
+  -- where the request begins: the worker's record, what the call leaves, and the machine
+  abbrev first : Worker
+  first = bare (first-place code k l (X .world .v .next 0))
+
+  abbrev going : After
+  going = record { catalogue = m .catalogue; table = put (m .table) v first; answer = answer.Going 0 }
+
+  abbrev begins : Ask → Conf
+  begins q = record { world = X .world; at = upd (X .at) v (starts (X .world) q) }
+
+  -- the machine takes up what it may
+  taking : (q : Ask) → takable (X .at) v q ≡ true → (Fine6 (begins q) → Held workers (record { catalogue = m .catalogue; table = going .table }) (begins q))
+      → Held workers (record { catalogue = m .catalogue; table = going .table }) (act X (takes v q))
+  taking q free f = rw free (f (rw free at (act-fine6 X (h .fine) (takes v q) (λ W e g. clash (cc)))))
+
+  -- by an idle worker of the table
+  begun : v < workers → busy (m .table) v ≡ false → code-known code ≡ true → key-refused code k l ≡ false → Done workers X going
+  begun low b e r =
+      let W : World = X .world in
+      let w : Worker = worker-at (m .table) v in
+      let z = taken W k l hk hl code e r in
+      let rests : resting (X .at v) ≡ true = idle (resting (X .at v)) (sym (busy-is (W .v .used) w (X .at v) (h .shown v (omega arith) .stands)) ∙ b) in
+      let free : takable (X .at) v (z .ask) ≡ true = rw (lt-ltb v 8 (omega arith), rests, z .fits) in
+      record {
+        choice = takes v (z .ask);
+        held = taking (z .ask) free (λ f. held-with workers m X h v low most (m .catalogue) W first (starts W (z .ask)) (h .shows) f (omega arith) (z .shown));
+        same-reply = refl;
+        whole = λ q. clash (cc);
+      }
+    where
+      idle : (b : Bool) → not b ≡ false → b ≡ true
+      idle true q = refl
+      idle false q = clash (cc)
+
+  -- the head's link is whole, so the request begins where the head leads
+  starting : v < workers → busy (m .table) v ≡ false → Done workers X (start-up (m .catalogue) (m .table) v code k l)
+  unfolding start-up
+  starting low b =
+      rw (h .shows .vlinks 0 (omega (arith, h .shows .vertices)) (λ z. clash (cc)))
+      (pick-both (Done workers X) (code-known code) _ _
+      (λ e. pick-both (Done workers X) (key-refused code k l) _ _ (λ r. refused workers m X h most refusal.Key (λ z. clash (cc))) (λ r. begun low b e r))
+      (λ e. refused workers m X h most refusal.Code (λ z. clash (cc))))
+
+  pub takes-done : Done workers X (take-up (m .catalogue) (m .table) v code k l)
+  unfolding take-up
+  takes-done =
+      in-table workers m X h most v _
+      (λ low. pick-both (Done workers X) (busy (m .table) v) _ _ (λ b. refused workers m X h most refusal.Busy (λ z. clash (cc))) (λ b. starting low b))

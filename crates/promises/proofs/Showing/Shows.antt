@@ -1,0 +1,138 @@
+-- How a catalogue of document 01 and a worker's record show the world and the spot of the machine of `row`: every word that is handed out is a whole link,
+-- and says what the world says. What is not handed out may be anything. Assumes nothing.
+use Prim.Native.Nat.{ℕ, _+_, _≤_, _<_}
+use mathlib.Core.Bool.{Bool, true, false}
+use mathlib.Core.Option.{Option, none, some}
+use mathlib.Core.Path.{_≡_}
+use lib.IntN.{ℤ}
+use lib.ListN.{length, take, drop}
+use Rattle.catalogue.specs.Numbers.{edge-pool, plain}
+use Rattle.catalogue.specs.Catalogue.{Catalogue, vertex-key, vertex-link, first-link, edge-key, edge-link, edge-target}
+use Rattle.catalogue.specs.Workers.{has, met-count, request-of}
+use Rattle.catalogue.specs.Writes.{commit}
+use Rattle.catalogue.specs.Steps.Places.{key-refused}
+use Rattle.catalogue.specs.Steps.Decide.{decide, record-after, write-of}
+use Rattle.catalogue.specs.declared.links.VertexLink.the-variants as vertex
+use Rattle.catalogue.specs.declared.links.EdgeLink.the-variants as edge
+use Rattle.catalogue.specs.declared.links.Target.the-variants as target
+use Rattle.catalogue.specs.declared.steps.Decision.{Decision}
+use Rattle.catalogue.specs.declared.steps.Decision.the-variants as decision
+use Rattle.catalogue.specs.declared.workers.Place.{Place}
+use Rattle.catalogue.specs.declared.workers.Place.the-variants as place
+use Rattle.catalogue.specs.declared.workers.Prev.{Prev}
+use Rattle.catalogue.specs.declared.workers.Prev.the-variants as prev
+use Rattle.catalogue.specs.declared.workers.Worker.{Worker}
+use Rattle.row.specs.Machine.{Idle, AddV, RemV, ConV}
+use Rattle.row.specs.Edges.{Tag, marked, transit, added, head, at}
+use Rattle.row.specs.Edges
+use Rattle.row.specs.World.{World, adds, rems, cons, Opened, closed, opened, Hunt, Spot, Rest, Vert, FindU, FindV, LookE, ConE, Trial, Next}
+use Rattle.row.specs.Deeds.{Mem}
+
+-- the tag of a vertex, and of an edge
+abbrev pub vertex-tag-of : Bool → ℕ
+vertex-tag-of true = 1
+vertex-tag-of false = 0
+
+abbrev pub edge-tag-of : Tag → ℕ
+edge-tag-of marked = 1
+edge-tag-of transit = 2
+edge-tag-of added = 3
+
+-- The tail's link is read by nobody, and the edge tail has none.
+pub record Shows (C : Catalogue) (W : World) : Type 0 where
+  pub vertices : W .v .used ≡ 2 + C .vertices-out
+  pub vertices-fit : C .vertices-out ≤ 254
+  pub edges : W .e .used ≡ 1 + C .edges-out
+  pub edges-fit : C .edges-out ≤ 2047
+  pub vkeys : (x : ℕ) → x < W .v .used → vertex-key C x ≡ W .v .key x
+  pub vlinks : (x : ℕ) → x < W .v .used → (x ≡ 1 → ⊥) → vertex-link C x ≡ vertex.At (W .v .next x) (vertex-tag-of (W .v .marked x))
+  pub firsts : (x : ℕ) → 2 ≤ x → x < W .v .used → first-link C x ≡ edge.At (W .e .first x) plain
+  pub ekeys : (e : ℕ) → e < W .e .used → edge-key C e ≡ W .e .key e
+  pub elinks : (e : ℕ) → 1 ≤ e → e < W .e .used → edge-link C e ≡ edge.At (W .e .next e) (edge-tag-of (W .e .tag e))
+  pub targets : (e : ℕ) → 1 ≤ e → e < W .e .used → edge-target C e ≡ target.At (W .e .target e)
+
+abbrev pub prev-of : Edges.Prev → Prev
+prev-of head = prev.First
+prev-of (at e) = prev.Edge e
+
+-- a vertex that is handed out
+pub record Series (used x : ℕ) : Type 0 where
+  pub low : 2 ≤ x
+  pub high : x < used
+
+abbrev pub Open : ℕ → Opened → Type 0
+Open used closed = Unit {0}
+Open used (opened x c) = Series used x
+
+-- what a trial keeps: the set met, and the queue from its front on; as many are met as were queued
+pub record Hunted (used : ℕ) (w : Worker) (h : Hunt) : Type 0 where
+  pub met-words : length (w .met) ≡ 4
+  pub queue-length : length (w .queue) ≡ 256
+  pub ordered : w .front ≤ w .back
+  pub fits : w .back ≤ 256
+  pub met-same : (x : ℕ) → x < 256 → has (w .met) x ≡ h .met x
+  pub counted : met-count (w .met) ≡ w .back
+  pub queue-same : drop (w .front) (take (w .back) (w .queue)) ≡ h .todo
+  pub queue-series : (x : ℕ) → Mem x (h .todo) → Series used x
+  pub open-series : Open used (h .stand)
+
+abbrev pub trial-place : ℤ → ℤ → ℕ → ℕ → ℕ → Opened → Place
+trial-place k l u v e closed = place.Trial k l u v e
+trial-place k l u v e (opened x c) = place.TrialOpen k l u v e x c
+
+-- the record stands at the spot, of `used` vertices; a look at edges tests that c is in the pool, though p may no longer lead there
+abbrev pub Stands : ℕ → Worker → Spot → Type 0
+Stands used w Rest = w .place ≡ place.Idle
+Stands used w (Vert Idle) = ⊥
+Stands used w (Vert (AddV k p c)) = w .place ≡ place.AddV k p c
+Stands used w (Vert (RemV k p c)) = w .place ≡ place.RemV k p c
+Stands used w (Vert (ConV k c)) = w .place ≡ place.ConV k c
+Stands used w (FindU adds k l c) = w .place ≡ place.AddEFindU k l c
+Stands used w (FindU rems k l c) = w .place ≡ place.RemEFindU k l c
+Stands used w (FindU cons k l c) = w .place ≡ place.ConEFindU k l c
+Stands used w (FindV adds k l u c) = w .place ≡ place.AddEFindV k l u c
+Stands used w (FindV rems k l u c) = w .place ≡ place.RemEFindV k l u c
+Stands used w (FindV cons k l u c) = w .place ≡ place.ConEFindV k l u c
+Stands used w (LookE true k l u v p c) = (w .place ≡ place.AddE k l u v (prev-of p) c) × (c < edge-pool)
+Stands used w (LookE false k l u v p c) = (w .place ≡ place.RemE k l u v (prev-of p) c) × (c < edge-pool)
+Stands used w (ConE k l u v c) = w .place ≡ place.ConE k l u v c
+Stands used w (Trial k l u v e h) = (w .place ≡ trial-place k l u v e (h .stand)) × Hunted used w h
+
+-- the request's keys are not reserved: that is asked before anything else in a step
+abbrev pub Asked : Place → Type 0
+Asked p = key-refused (request-of p .code) (request-of p .k) (request-of p .l) ≡ false
+
+pub record Shown (used : ℕ) (w : Worker) (s : Spot) : Type 0 where
+  pub asked : Asked (w .place)
+  pub stands : Stands used w s
+
+-- what a decision replies
+abbrev pub reply-of : Decision → Option ℕ
+reply-of decision.Torn = none
+reply-of decision.Code = none
+reply-of (decision.Going next write) = none
+reply-of (decision.Begins next write v) = none
+reply-of (decision.Keeps next) = none
+reply-of (decision.Meets next y) = none
+reply-of (decision.Takes next) = none
+reply-of (decision.Reply n write) = some n
+
+-- a decision that does not refuse
+abbrev pub Sure : Decision → Type 0
+Sure decision.Torn = ⊥
+Sure decision.Code = ⊥
+Sure (decision.Going next write) = Unit {0}
+Sure (decision.Begins next write v) = Unit {0}
+Sure (decision.Keeps next) = Unit {0}
+Sure (decision.Meets next y) = Unit {0}
+Sure (decision.Takes next) = Unit {0}
+Sure (decision.Reply n write) = Unit {0}
+
+-- One step of document 01 is one move of the machine.
+pub record Follows (C : Catalogue) (w : Worker) (n : Next) : Type 0 where
+  pub decision : Decision
+  pub decides : decide C w ≡ decision
+  pub sure : Sure decision
+  pub world : Shows (commit C (write-of decision)) (n .world)
+  pub spot : Shown (n .world .v .used) (record-after w decision) (n .spot)
+  pub reply : reply-of decision ≡ n .answer

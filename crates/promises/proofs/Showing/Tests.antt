@@ -1,0 +1,37 @@
+-- The definitions nest tests where the machine joins them. Assumes nothing.
+use mathlib.Core.Bool.{Bool, true, false, cond, not, _&&_, _||_}
+use mathlib.Core.Path.{_≡_, refl}
+use Rattle.catalogue.specs.Tests.{pick}
+use Rattle.catalogue.proofs.Picks.{clash}
+
+module _ {A : Type 0} where
+  pub pick-cond : (a : Bool) (x y : A) → pick a x y ≡ cond a x y
+  pick-cond true x y = refl
+  pick-cond false x y = refl
+
+  pub pick-or : (a b : Bool) (x y : A) → pick a x (pick b x y) ≡ cond (a || b) x y
+  pick-or true b x y = refl
+  pick-or false true x y = refl
+  pick-or false false x y = refl
+
+  pub pick-unless : (a b : Bool) (x y : A) → pick a x (cond b y x) ≡ cond (not a && b) y x
+  pick-unless true b x y = refl
+  pick-unless false b x y = refl
+
+-- of two tests joined, neither holds
+pub neither : (a b : Bool) → pick a true b ≡ false → (a ≡ false) × (b ≡ false)
+neither true b e = clash (cc)
+neither false b e = (refl, e)
+
+-- of two tests joined, both hold
+pub second : (a b : Bool) → pick a b false ≡ true → b ≡ true
+second true b e = e
+second false b e = clash (cc)
+
+pub never : (b : Bool) → (b ≡ true → ⊥) → b ≡ false
+never true n = absurd (n refl)
+never false n = refl
+
+pub or-false : (a b : Bool) → (a || b) ≡ false → b ≡ false
+or-false true b e = clash (cc)
+or-false false b e = e

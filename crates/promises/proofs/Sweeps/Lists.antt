@@ -1,0 +1,169 @@
+-- The edge lists of the world after a sweep are sorted, because the numbers of each vertex's edges stand in a row; and every edge has its ends. Assumes nothing.
+use Prim.Native.Nat.{ℕ, _+_, _≤_, _<_}
+use mathlib.Core.Bool.{true, false}
+use mathlib.Core.List.{List, _∷_, _++_}
+use mathlib.Core.Logic.{inl, inr}
+use mathlib.Core.Path.{_≡_, refl, ap, _∙_}
+use native.Mathlib.Omega.{arith}
+use borrow.Author.Tests.{leb-true, ltb-true}
+use lib.Dec.{leb, ltb}
+use lib.IntN.{ℤ}
+use lib.ListN.{length, length-append}
+use lib.Signed.{_<ℤ_, ltZ-yes}
+use Rattle.catalogue.specs.Tests.{pick, every}
+use Rattle.catalogue.specs.Catalogue.{Catalogue, first-link, edge-key, edge-key-in, edge-link, edge-target, at-edge, at-target}
+use Rattle.catalogue.specs.Numbers.{least, greatest}
+use Rattle.catalogue.specs.Live.{first-edge, next-edge, edges-of, live-vertices, live-edges-of}
+use Rattle.catalogue.specs.Soundness.{Asks, tag-fits, target-sound, edge-sound, edges-sound, sound}
+use Rattle.catalogue.specs.Sweep.{swept}
+use Rattle.catalogue.specs.declared.links.EdgeLink.{EdgeLink}
+use Rattle.catalogue.proofs.Picks.{pick-both}
+use Rattle.resting.specs.Members.{All, every-all}
+use Rattle.resting.specs.Rows.{row}
+use Rattle.resting.specs.Sound.{edge-rises, whole, lists-sound}
+use Rattle.resting.specs.Shape.{live-row}
+use Rattle.resting.specs.Shares.{start, shares-length, row-low, link-row, first-link-row, edges-row}
+use Rattle.resting.specs.Kept.{edge-source, edge-aim}
+use Rattle.row.specs.Base.{clash, lt-or}
+use Rattle.row.specs.Links.{Sorted}
+use Rattle.row.specs.Edges.{Edges, Prev, head, at, Mine, eview, ESound}
+use Rattle.row.specs.Graph.{Ends}
+use Rattle.promises.proofs.Sweeps.InRow.{all-in-row, Place, first, final, inner, Row, row-sorted}
+use Rattle.promises.proofs.Sweeps.Owners.{owner-is, owned-by}
+use Rattle.promises.proofs.Sweeps.Vertices.{above-least}
+use Rattle.promises.proofs.Sweeps.World.{count, edge-count, swept-world, first-is, each-number}
+
+pub edge-tail-key : (C : Catalogue) → edge-key (swept C) 0 ≡ greatest
+unfolding edge-key-in
+edge-tail-key C = refl
+
+module _ (asks : Asks) (C : Catalogue) (s : sound asks C ≡ true) (again : sound asks (swept C) ≡ true) where
+  abbrev lists : Edges
+  lists = swept-world C .e
+
+  abbrev key : ℕ → ℤ
+  key = edge-key (swept C)
+
+  abbrev to : EdgeLink → ℕ
+  to l = at-edge l 0 (λ next tag. next)
+
+  tail-above : least <ℤ key 0
+  tail-above = rw (edge-tail-key C) (ltZ-yes tt)
+
+  above : (e : ℕ) → 1 ≤ e → e ≤ edge-count C → least <ℤ key e
+  above e a b = let t = edge-aim asks C s e a b in rw (← t .keyed) (above-least asks C s again (t .to) (t .low) (t .high))
+
+  owner-place : (e : ℕ) → 1 ≤ e → e ≤ edge-count C → (2 ≤ lists .owner e) × (lists .owner e < 2 + count C)
+  owner-place e a b =
+      let p = edge-source asks C s e a b in
+      rw (owner-is C (p .front) (p .source) (p .rest) (p .split) e (p .low) (p .high))
+      (omega arith, omega (arith, ap length (p .split), length-append (p .front) (p .source ∷ p .rest)))
+
+  pub edge-ends : (e : ℕ) → 1 ≤ e → e < 1 + edge-count C → Ends (swept-world C) e
+  edge-ends e a b =
+      let o = owner-place e a (omega arith) in
+      let t = edge-aim asks C s e a (omega arith) in
+      let q : lists .target e ≡ t .to = ap (λ l. at-target l 0 (λ y. y)) (t .read) in
+      record { source-low = o .0; source-high = o .1; target-low = rw q (t .low); target-high = rw q (t .high); same-key = rw q (t .keyed) }
+
+  -- ---- the list of a live vertex
+
+  module _ (front : List ℕ) (x : ℕ) (rest : List ℕ) (split : live-vertices C ≡ front ++ x ∷ rest) where
+    abbrev number : ℕ
+    number = 2 + length front
+
+    abbrev from : ℕ
+    from = start C front
+
+    abbrev size : ℕ
+    size = length (live-edges-of C x)
+
+    abbrev last : ℕ
+    last = from + size
+
+    in-range : number < 2 + count C
+    in-range = omega (arith, ap length split, length-append front (x ∷ rest))
+
+    few : last ≤ 1 + edge-count C
+    few = omega (arith, row-low asks C s front x rest split, shares-length C (live-vertices C))
+
+    first-there : lists .first number ≡ pick (ltb from last) from 0
+    first-there = first-is C number (omega arith) in-range ∙ ap to (first-link-row asks C s front x rest split)
+
+    above-there : least <ℤ key (pick (ltb from last) from 0)
+    above-there = pick-both (λ e. least <ℤ key e) (ltb from last) from 0 (λ t. above from (omega arith) (omega (arith, ltb-true from last t, few))) (λ t. tail-above)
+
+    abbrev Passes : ℕ → Type 0
+    Passes e = edge-sound asks (swept C) e ≡ true
+
+    pass : All Passes (row from size)
+    pass =
+        let all = rw (live-row asks C s) at (lists-sound asks (swept C) again) in
+        let l = all-in-row (λ u. edges-sound asks (swept C) u ≡ true) 2 (count C) all number (omega arith) in-range in
+        let t = whole (every (edge-sound asks (swept C)) (edges-of (swept C) number)) (first-link (swept C) number) l in
+        rw (edges-row asks C s front x rest split) at (every-all (edge-sound asks (swept C)) (edges-of (swept C) number) t)
+
+    rises : (e : ℕ) → Passes e → key e <ℤ key (next-edge (swept C) e)
+    rises e h = edge-rises (key e) key (tag-fits asks) (at-target (edge-target (swept C) e) false (target-sound (swept C) e)) (edge-link (swept C) e) h .0
+
+    edge-row : Row (eview lists number) head at 0 from last
+    edge-row =
+        record {
+          ends = inl refl;
+          starts = record { inside = tt; goes = ap at first-there; apart = λ q. clash (cc); rises = rw first-there above-there };
+          goes-on = λ e a b. record {
+            inside = inr (record { low = omega arith; high = omega (arith, few); own = owner-is C front x rest split e a b });
+            goes = ap (λ l. at (to l)) (link-row asks C s front x rest split e a b);
+            apart = λ q. let z : e ≡ 0 = cc in omega arith;
+            rises = rises e (all-in-row Passes from size pass e a b);
+          };
+          covers = cover;
+        }
+      where
+        cover : (p : Prev) → Mine lists number p → Place (eview lists number) head at 0 from last p
+        cover head m = first refl
+        cover (at e) (inl z) = final (ap at z)
+        cover (at e) (inr o) = let w = owned-by C front x rest split e (o .low) (omega (arith, o .high)) (o .own) in inner e (w .0) (w .1) refl
+
+    list-sorted : Sorted head (at 0) (eview lists number)
+    list-sorted = row-sorted (eview lists number) head at 0 from last edge-row
+
+  -- ---- what is no vertex has no edges
+
+  module _ (u : ℕ) (off : 2 ≤ u → u < 2 + count C → ⊥) where
+    no-first : lists .first u ≡ 0
+    no-first =
+        pick-both (λ e. e ≡ 0) (leb 2 u) _ 0
+        (λ a. pick-both (λ e. e ≡ 0) (ltb u (2 + count C)) (first-edge (swept C) u) 0
+        (λ b. absurd (off (leb-true 2 u a) (ltb-true u (2 + count C) b))) (λ b. refl))
+        (λ a. refl)
+
+    no-row : Row (eview lists u) head at 0 1 1
+    no-row =
+        record {
+          ends = inl refl;
+          starts = record { inside = tt; goes = ap at no-first; apart = λ q. clash (cc); rises = rw no-first tail-above };
+          goes-on = λ e a b. absurd (omega arith);
+          covers = cover;
+        }
+      where
+        cover : (p : Prev) → Mine lists u p → Place (eview lists u) head at 0 1 1 p
+        cover head m = first refl
+        cover (at e) (inl z) = final (ap at z)
+        cover (at e) (inr o) = let w = owner-place e (o .low) (omega (arith, o .high)) in absurd (off (rw (o .own) at (w .0)) (rw (o .own) at (w .1)))
+
+    none-sorted : Sorted head (at 0) (eview lists u)
+    none-sorted = row-sorted (eview lists u) head at 0 1 1 no-row
+
+  pub swept-esound : ESound lists
+  swept-esound = record { some = omega arith; sorted = each; tail-plain = refl }
+    where
+      each : (u : ℕ) → Sorted head (at 0) (eview lists u)
+      each u =
+          elim (lt-or u 2) [
+            | inl h ↦ none-sorted u (λ a b. omega arith)
+            | inr a ↦ elim (lt-or u (2 + count C)) [
+              | inl b ↦ each-number asks C s (λ i. Sorted head (at 0) (eview lists i)) list-sorted u a b
+              | inr h ↦ none-sorted u (λ a b. omega arith)
+            ]
+          ]

@@ -1,0 +1,72 @@
+-- After a sweep the catalogue again shows a good world, without an edge on trial, and the graph is that of before. Assumes nothing.
+use mathlib.Core.Bool.{true}
+use mathlib.Core.Path.{_≡_, refl, ap₂, fun-ext}
+use native.Mathlib.Omega.{arith}
+use lib.Signed.{≤ℤ-refl}
+use Rattle.catalogue.specs.Catalogue.{Catalogue}
+use Rattle.catalogue.specs.Numbers.{least}
+use Rattle.catalogue.specs.Listing.{vertex-lines, edge-lines}
+use Rattle.catalogue.specs.Soundness.{sweep, sound}
+use Rattle.catalogue.specs.Sweep.{swept}
+use Rattle.resting.specs.Kept.{same-vertices, same-edges, swept-sound}
+use Rattle.row.specs.Machine.{live}
+use Rattle.row.specs.LiveSet.{bool-iff}
+use Rattle.row.specs.World.{World, Untried, graph, edges}
+use Rattle.row.specs.Graph.{WGood}
+use Rattle.promises.proofs.Showing.Shows.{Shows}
+use Rattle.promises.proofs.Lists.AtRest.{rest-sound}
+use Rattle.promises.proofs.Lists.Printed.{vertex-read, vertex-printed, reading, printed, no-chain}
+use Rattle.promises.proofs.Sweeps.World.{swept-world, swept-shows, swept-untried}
+use Rattle.promises.proofs.Sweeps.Vertices.{swept-good}
+use Rattle.promises.proofs.Sweeps.Lists.{swept-esound, edge-tail-key, edge-ends}
+use Rattle.promises.proofs.Sweeps.Safe.{swept-safe}
+
+pub record Swept (C : Catalogue) : Type 0 where
+  pub world : World
+  pub shows : Shows (swept C) world
+  pub good : WGood world
+  pub untried : Untried world
+
+-- a catalogue with the lines of another shows the same graph
+module _ (C D : Catalogue) (W X : World) (s : Shows C W) (g : WGood W) (t : Shows D X) (h : WGood X) where
+  same-live : vertex-lines D ≡ vertex-lines C → live (X .v) ≡ live (W .v)
+  same-live e =
+      fun-ext (λ k. bool-iff (live (X .v) k) (live (W .v) k)
+      (λ q. vertex-read C W s g k (rw e at (vertex-printed D X t h k q)))
+      (λ q. vertex-read D X t h k (rw e (vertex-printed C W s g k q))))
+
+  same-edge : edge-lines D ≡ edge-lines C → edges X ≡ edges W
+  same-edge e =
+      fun-ext (λ k. fun-ext (λ l. bool-iff (edges X k l) (edges W k l)
+      (λ q. reading C W s g k l (rw e at (printed D X t h k l q)))
+      (λ q. reading D X t h k l (rw e (printed C W s g k l q)))))
+
+module _ (C : Catalogue) (W : World) (s : Shows C W) (g : WGood W) (u : Untried W) where
+  whole : sound sweep C ≡ true
+  whole = rest-sound C W s g sweep (λ q. u)
+
+  again : sound sweep (swept C) ≡ true
+  again = swept-sound sweep C whole (rw (s .vkeys 0 (omega (arith, g .good .sound .some)), g .good .key-head) (≤ℤ-refl least)) sweep
+
+  pub sweeps-well : Swept C
+  sweeps-well =
+      record {
+        world = swept-world C;
+        shows = swept-shows sweep C whole;
+        good = record {
+          good = swept-good sweep C whole again;
+          esound = swept-esound sweep C whole again;
+          tail-key = edge-tail-key C;
+          tail-tag = refl;
+          ends = edge-ends sweep C whole again;
+          safe = swept-safe sweep C whole again (no-chain C W s g);
+        };
+        untried = swept-untried C;
+      }
+
+  pub sweeps-same : graph (sweeps-well .world) ≡ graph W
+  sweeps-same =
+      let n = sweeps-well in
+      ap₂ (λ v e. record { v = v; e = e })
+      (same-live C (swept C) W (n .world) s g (n .shows) (n .good) (same-vertices sweep C whole))
+      (same-edge C (swept C) W (n .world) s g (n .shows) (n .good) (same-edges sweep C whole))

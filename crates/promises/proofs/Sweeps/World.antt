@@ -1,0 +1,113 @@
+-- The world that a swept catalogue shows: its lists as they are read, every edge in the list of its owner. Assumes nothing.
+use Prim.Native.Nat.{ℕ, _+_, _≤_, _<_}
+use mathlib.Core.Bool.{true, false}
+use mathlib.Core.List.{List, _∷_, _++_}
+use mathlib.Core.Logic.{inl, inr}
+use mathlib.Core.Path.{_≡_, refl}
+use native.Mathlib.Omega.{arith}
+use borrow.Author.Tests.{ne-eqb, le-leb, lt-ltb}
+use lib.Dec.{eqb, leb, ltb}
+use lib.ListN.{length}
+use Rattle.catalogue.specs.Tests.{pick}
+use Rattle.catalogue.specs.Catalogue.{Catalogue, vertex-key, vertex-link, first-link, edge-key, edge-link, edge-target, at-vertex, at-edge, at-target}
+use Rattle.catalogue.specs.Numbers.{plain}
+use Rattle.catalogue.specs.Live.{next-vertex, first-edge, next-edge, live-vertices, live-edges-of, gather}
+use Rattle.catalogue.specs.Soundness.{Asks, sound}
+use Rattle.catalogue.specs.Sweep.{swept}
+use Rattle.catalogue.specs.declared.links.VertexLink.{VertexLink}
+use Rattle.catalogue.specs.declared.links.VertexLink.the-variants as vertex
+use Rattle.catalogue.specs.declared.links.EdgeLink.{EdgeLink}
+use Rattle.catalogue.specs.declared.links.EdgeLink.the-variants as edge
+use Rattle.catalogue.specs.declared.links.Target.{Target}
+use Rattle.catalogue.specs.declared.links.Target.the-variants as target
+use Rattle.resting.specs.Vertices.{live-few}
+use Rattle.resting.specs.Reads.{head-at, vertex-at}
+use Rattle.resting.specs.Shape.{live-row, each-vertex}
+use Rattle.resting.specs.Shares.{link-row, first-link-row}
+use Rattle.resting.specs.Kept.{vertices-handed, edges-handed, edge-source, edge-aim}
+use Rattle.row.specs.Base.{same?, clash}
+use Rattle.row.specs.Edges.{transit, added}
+use Rattle.row.specs.World.{World, Untried}
+use Rattle.promises.proofs.Showing.Shows.{Shows, edge-tag-of}
+use Rattle.promises.proofs.Sweeps.Owners.{owner}
+use Rattle.promises.proofs.Sweeps.InRow.{all-in-row}
+
+module _ (C : Catalogue) where
+  abbrev pub count : ℕ
+  count = length (live-vertices C)
+
+  abbrev pub edge-count : ℕ
+  edge-count = length (gather (live-edges-of C) (live-vertices C))
+
+  -- the list of what is no vertex is empty
+  abbrev pub swept-world : World
+  swept-world = record {
+    v = record { next = next-vertex (swept C); marked = λ x. false; key = vertex-key (swept C); used = 2 + count };
+    e = record {
+      first = λ u. pick (leb 2 u) (pick (ltb u (2 + count)) (first-edge (swept C) u) 0) 0;
+      next = next-edge (swept C);
+      tag = λ e. pick (eqb e 0) transit added;
+      key = edge-key (swept C);
+      target = λ e. at-target (edge-target (swept C) e) 0 (λ y. y);
+      owner = owner C;
+      used = 1 + edge-count;
+    };
+  }
+
+  tag-is : (e : ℕ) → 1 ≤ e → swept-world .e .tag e ≡ added
+  tag-is e a = rw (ne-eqb e 0 (omega arith)) refl
+
+  pub swept-untried : Untried swept-world
+  swept-untried e o = clash (cc (tag-is e (o .low), o .tried))
+
+  pub first-is : (u : ℕ) → 2 ≤ u → u < 2 + count → swept-world .e .first u ≡ first-edge (swept C) u
+  first-is u a b = rw (le-leb 2 u a, lt-ltb u (2 + count) b) refl
+
+-- a link that is whole is what is read of it
+vertex-whole : (l : VertexLink) (y tag : ℕ) → l ≡ vertex.At y tag → l ≡ vertex.At (at-vertex l 1 (λ next t. next)) tag
+vertex-whole l y tag q = rw q refl
+
+edge-whole : (l : EdgeLink) (y tag : ℕ) → l ≡ edge.At y tag → l ≡ edge.At (at-edge l 0 (λ next t. next)) tag
+edge-whole l y tag q = rw q refl
+
+target-whole : (l : Target) (y : ℕ) → l ≡ target.At y → l ≡ target.At (at-target l 0 (λ z. z))
+target-whole l y q = rw q refl
+
+module _ (asks : Asks) (C : Catalogue) (s : sound asks C ≡ true) where
+  -- what holds of the new number of each live vertex, by those before it, holds of every vertex number
+  pub each-number : (P : ℕ → Type 0) → ((front : List ℕ) (x : ℕ) (rest : List ℕ) → live-vertices C ≡ front ++ x ∷ rest → P (2 + length front))
+      → (u : ℕ) → 2 ≤ u → u < 2 + count C → P u
+  each-number P h = all-in-row P 2 (count C) (rw (live-row asks C s) at (each-vertex asks C s P h))
+
+  pub swept-shows : Shows (swept C) (swept-world C)
+  swept-shows =
+      record {
+        vertices = omega (arith, vertices-handed asks C s .0);
+        vertices-fit = omega (arith, vertices-handed asks C s .0, vertices-handed asks C s .1);
+        edges = omega (arith, edges-handed asks C s .0);
+        edges-fit = omega (arith, edges-handed asks C s .0, edges-handed asks C s .1);
+        vkeys = λ x h. refl;
+        vlinks = next-there;
+        firsts = first-there;
+        ekeys = λ e h. refl;
+        elinks = λ e a h. rw (tag-is C e a) (edge-there e a (omega arith));
+        targets = λ e a h. target-whole _ _ (edge-aim asks C s e a (omega arith) .read);
+      }
+    where
+      next-there : (x : ℕ) → x < 2 + count C → (x ≡ 1 → ⊥) → vertex-link (swept C) x ≡ vertex.At (next-vertex (swept C) x) plain
+      next-there x h d =
+          elim (same? x 0) [
+            | inl q ↦ rw q (vertex-whole _ _ _ (head-at C (live-few asks C s)))
+            | inr n ↦ vertex-whole _ _ _ (vertex-at C (live-few asks C s) x (omega arith) h)
+          ]
+
+      first-there : (x : ℕ) → 2 ≤ x → x < 2 + count C → first-link (swept C) x ≡ edge.At (swept-world C .e .first x) plain
+      first-there x a b =
+          rw (first-is C x a b)
+          (each-number (λ i. first-link (swept C) i ≡ edge.At (first-edge (swept C) i) plain)
+          (λ front y rest split. edge-whole _ _ _ (first-link-row asks C s front y rest split)) x a b)
+
+      edge-there : (e : ℕ) → 1 ≤ e → e ≤ edge-count C → edge-link (swept C) e ≡ edge.At (next-edge (swept C) e) (edge-tag-of added)
+      edge-there e a h =
+          let p = edge-source asks C s e a h in
+          edge-whole _ _ _ (link-row asks C s (p .front) (p .source) (p .rest) (p .split) e (p .low) (p .high))

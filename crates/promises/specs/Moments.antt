@@ -1,0 +1,42 @@
+-- The moments of a run: what the host may choose, and what the catalogue and the workers are after it.
+use Prim.Native.Nat.{ℕ, _≤_}
+use mathlib.Core.Bool.{false}
+use mathlib.Core.List.{List, [], _∷_}
+use mathlib.Core.Path.{_≡_}
+use lib.IntN.{ℤ}
+use lib.ListN.{getD, take}
+use lib.Signed.{ltZ}
+use Rattle.catalogue.specs.Numbers.{least, greatest}
+use Rattle.catalogue.specs.Runs.{Choice, takes, steps, sweeps, Moment, start, after}
+
+-- every member of a list
+pub data All {A : Type 0} (P : A → Type 0) : List A → Type 0 where
+  none : All P []
+  each : {x : A} {xs : List A} → P x → All P xs → All P (x ∷ xs)
+
+-- A key is a number of 32 bits.
+pub record Key (k : ℤ) : Type 0 where
+  pub low : ltZ k least ≡ false
+  pub high : ltZ greatest k ≡ false
+
+abbrev pub Keyed : Choice → Type 0
+Keyed (takes w code k l) = Key k × Key l
+Keyed (steps w) = Unit {0}
+Keyed sweeps = Unit {0}
+
+-- What the types of the calls say by themselves: 1 to 8 workers (another count is refused as such), and keys of 32 bits.
+pub record Given (workers : ℕ) (choices : List Choice) : Type 0 where
+  pub some : 1 ≤ workers
+  pub most : workers ≤ 8
+  pub keyed : All Keyed choices
+
+-- The moment after a list of choices, from the fresh catalogue and with all workers idle.
+abbrev pub at : ℕ → List Choice → Moment
+at workers choices = after (start workers) choices
+
+-- The moment after the first n of them, and the choice that is made then; past the last one a worker that is not there is asked to step.
+abbrev pub moment : ℕ → List Choice → ℕ → Moment
+moment workers choices n = at workers (take n choices)
+
+abbrev pub chosen : ℕ → List Choice → ℕ → Choice
+chosen workers choices n = getD choices n (steps workers)

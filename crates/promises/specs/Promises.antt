@@ -1,0 +1,58 @@
+-- Demand 3: what holds of every run. Stated over the definitions that the contracts of the code cite; proved in proofs/.
+use Prim.Native.Nat.{ℕ, _≤_}
+use mathlib.Core.Bool.{Bool, true, false}
+use mathlib.Core.List.{List}
+use mathlib.Core.Path.{_≡_}
+use lib.IntN.{ℤ}
+use lib.ListN.{length}
+use Rattle.catalogue.specs.Calls.{take-up, step}
+use Rattle.catalogue.specs.Runs.{Choice, takes, steps, sweeps, Moment}
+use Rattle.catalogue.specs.Soundness.{Asks, sweep, sound}
+use Rattle.catalogue.specs.Sweep.{any-busy, sweep-into}
+use Rattle.catalogue.specs.declared.answers.Refusal.the-variants.{Torn}
+use Rattle.catalogue.specs.declared.answers.Answer.the-variants as answer
+use Rattle.catalogue.specs.declared.answers.Made.the-variants as made
+use Rattle.row.specs.Row.{Entry, Explains}
+use Rattle.promises.specs.Moments.{Keyed, Given, at}
+use Rattle.promises.specs.Graphs.{Graph, live, Walk}
+use Rattle.promises.specs.Alone.{Ask, Alone}
+use Rattle.promises.specs.Histories.{history, in-row}
+
+-- No series is derived from itself, over however many derivations between live series.
+abbrev pub NoLoop : Type 0
+NoLoop =
+    (workers : ℕ) (choices : List Choice) → Given workers choices → (k l : ℤ)
+    → live (at workers choices .catalogue) .derived k l ≡ true → Walk (live (at workers choices .catalogue)) k l → ⊥
+
+-- A call that is refused as torn.
+abbrev pub Refused-torn : Moment → Choice → Type 0
+Refused-torn m (takes w code k l) = take-up (m .catalogue) (m .table) w code k l .answer ≡ answer.Refused Torn
+Refused-torn m (steps w) = step (m .catalogue) (m .table) w .answer ≡ answer.Refused Torn
+Refused-torn m sweeps = sweep-into (m .catalogue) (m .catalogue) (m .table) .answer ≡ made.Refused Torn
+
+-- There is none, whatever the choice.
+abbrev pub NeverTorn : Type 0
+NeverTorn = (workers : ℕ) (choices : List Choice) → Given workers choices → (c : Choice) → Keyed c → Refused-torn (at workers choices) c → ⊥
+
+-- The catalogue is sound: for a listing at every moment, for a sweep at rest.
+abbrev pub SoundAtRest : Type 0
+SoundAtRest =
+    (workers : ℕ) (choices : List Choice) → Given workers choices → (asks : Asks)
+    → (asks ≡ sweep → any-busy (at workers choices .table) workers ≡ false) → sound asks (at workers choices .catalogue) ≡ true
+
+-- The answered calls other than those replied 6, 7 and 9 stand in one row: each once, each between its first and its last choice; done one at a time in that
+-- order, from the empty graph, they give the replies that were given and the live graph that there is.
+abbrev pub OneRow : Type 0
+OneRow =
+    (workers : ℕ) (choices : List Choice) → Given workers choices
+    → (row : List (Entry Ask ℕ)) × Explains Alone in-row (history workers choices) (length choices) row
+
+-- A call that is alone has one outcome, whatever is asked, on every live graph of a run.
+pub record Outcome (g : Graph) (q : Ask) : Type 0 where
+  pub reply : ℕ
+  pub graph : Graph
+  pub alone : Alone g q reply graph
+  pub only : (n : ℕ) (h : Graph) → Alone g q n h → (n ≡ reply) × (h ≡ graph)
+
+abbrev pub OneOutcome : Type 0
+OneOutcome = (workers : ℕ) (choices : List Choice) → Given workers choices → (q : Ask) → Outcome (live (at workers choices .catalogue)) q

@@ -1,0 +1,102 @@
+-- What holds of every member of a list: how it passes through the tests and the lists that the definitions make. Assumes nothing.
+use Prim.Native.Nat.{ℕ, zero, suc, _<_}
+use mathlib.Core.Bool.{Bool, true, false, false≢true}
+use mathlib.Core.List.{List, [], _∷_, _++_, map}
+use mathlib.Core.Path.{_≡_, refl, ap}
+use native.Mathlib.Omega.{arith}
+use lib.ListN.{length, getD}
+use lib.Dec.{eqb}
+use borrow.Author.Tests.{eq-eqb}
+use Rattle.catalogue.specs.Tests.{pick, keep, every, member}
+use Rattle.catalogue.specs.Live.{gather}
+use Rattle.catalogue.proofs.Picks.{pick-both}
+
+abbrev pub All : {A : Type 0} → (A → Type 0) → List A → Type 0
+All P [] = Unit {0}
+All P (x ∷ l) = P x × All P l
+
+-- a choice by clauses is `pick`
+pub chosen : {A : Type 0} (t : Bool) (a b : A) → elim t [ true ↦ a | false ↦ b ] ≡ pick t a b
+chosen true a b = refl
+chosen false a b = refl
+
+-- both tests of a choice that came out true
+pub both-true : (t s : Bool) → pick t s false ≡ true → (t ≡ true) × (s ≡ true)
+both-true true s e = (refl, e)
+both-true false s e = absurd (false≢true e)
+
+module _ {A : Type 0} where
+  pub all-each : (P Q : A → Type 0) → ((x : A) → P x → Q x) → (l : List A) → All P l → All Q l
+  all-each P Q f [] h = tt
+  all-each P Q f (x ∷ l) h = (f x (h .0), all-each P Q f l (h .1))
+
+  pub all-any : (P : A → Type 0) → ((x : A) → P x) → (l : List A) → All P l
+  all-any P f [] = tt
+  all-any P f (x ∷ l) = (f x, all-any P f l)
+
+  pub all-join : (P Q : A → Type 0) (l : List A) → All P l → All Q l → All (λ x. P x × Q x) l
+  all-join P Q [] h g = tt
+  all-join P Q (x ∷ l) h g = ((h .0, g .0), all-join P Q l (h .1) (g .1))
+
+  pub all-append : (P : A → Type 0) (a b : List A) → All P a → All P b → All P (a ++ b)
+  all-append P [] b h g = g
+  all-append P (x ∷ a) b h g = (h .0, all-append P a b (h .1) g)
+
+  pub all-parts : (P : A → Type 0) (a b : List A) → All P (a ++ b) → All P a × All P b
+  all-parts P [] b h = (tt, h)
+  all-parts P (x ∷ a) b h = let r = all-parts P a b (h .1) in ((h .0, r .0), r .1)
+
+  pub all-at : (P : A → Type 0) (d : A) (l : List A) (i : ℕ) → All P l → i < length l → P (getD l i d)
+  all-at P d [] i h b = absurd (omega arith)
+  all-at P d (x ∷ l) zero h b = h .0
+  all-at P d (x ∷ l) (suc i) h b = all-at P d l i (h .1) (omega arith)
+
+  pub all-map : {B : Type 0} (P : B → Type 0) (f : A → B) (l : List A) → All (λ x. P (f x)) l → All P (map f l)
+  all-map P f [] h = tt
+  all-map P f (x ∷ l) h = (h .0, all-map P f l (h .1))
+
+  pub map-all : {B : Type 0} (P : B → Type 0) (f : A → B) (l : List A) → All P (map f l) → All (λ x. P (f x)) l
+  map-all P f [] h = tt
+  map-all P f (x ∷ l) h = (h .0, map-all P f l (h .1))
+
+  pub all-gather : (P : A → Type 0) (f : ℕ → List A) (l : List ℕ) → All (λ x. All P (f x)) l → All P (gather f l)
+  unfolding gather
+  all-gather P f [] h = tt
+  all-gather P f (x ∷ l) h = all-append P (f x) (gather f l) (h .0) (all-gather P f l (h .1))
+
+  -- the tests of the definitions
+  pub every-all : (test : A → Bool) (l : List A) → every test l ≡ true → All (λ x. test x ≡ true) l
+  unfolding every
+  every-all test [] e = tt
+  every-all test (x ∷ l) e = let r = both-true (test x) (every test l) e in (r .0, every-all test l (r .1))
+
+  pub all-every : (test : A → Bool) (l : List A) → All (λ x. test x ≡ true) l → every test l ≡ true
+  unfolding every
+  all-every test [] h = refl
+  all-every test (x ∷ l) h = rw (h .0) (all-every test l (h .1))
+
+  pub all-keep : (P : A → Type 0) (test : A → Bool) (l : List A) → All P l → All (λ x. P x × (test x ≡ true)) (keep test l)
+  unfolding keep
+  all-keep P test [] h = tt
+  all-keep P test (x ∷ l) h =
+      let rest = all-keep P test l (h .1) in
+      pick-both (All (λ x. P x × (test x ≡ true))) (test x) (x ∷ keep test l) (keep test l) (λ e. ((h .0, e), rest)) (λ e. rest)
+
+  pub kept-all : (P : A → Type 0) (test : A → Bool) (l : List A) → All P l → All P (keep test l)
+  kept-all P test l h = all-each (λ x. P x × (test x ≡ true)) P (λ x p. p .0) (keep test l) (all-keep P test l h)
+
+  pub keys-kept : {B : Type 0} (P : B → Type 0) (key : A → B) (test : A → Bool) (l : List A) → All P (map key l) → All P (map key (keep test l))
+  keys-kept P key test l h = all-map P key (keep test l) (kept-all (λ x. P (key x)) test l (map-all P key l h))
+
+  pub keep-all : (test : A → Bool) (l : List A) → All (λ x. test x ≡ true) l → keep test l ≡ l
+  unfolding keep
+  keep-all test [] h = refl
+  keep-all test (x ∷ l) h = rw (h .0) (ap (λ r. x ∷ r) (keep-all test l (h .1)))
+
+pub all-member : (l : List ℕ) → All (λ x. member x l ≡ true) l
+unfolding member
+all-member [] = tt
+all-member (x ∷ l) = (
+  rw (eq-eqb x x refl) refl,
+  all-each (λ y. member y l ≡ true) (λ y. member y (x ∷ l) ≡ true) (λ y e. pick-both (λ t. t ≡ true) (eqb y x) true (member y l) (λ q. refl) (λ q. e)) l (all-member l),
+)

@@ -1,0 +1,53 @@
+-- Different numbers of a range are no more than the range has. Assumes nothing.
+use Prim.Native.Nat.{ℕ, zero, suc, _+_, _<_, _≤_}
+use mathlib.Core.Bool.{Bool, true, false}
+use mathlib.Core.List.{List, [], _∷_}
+use mathlib.Core.Path.{_≡_, refl, sym, _∙_}
+use native.Mathlib.Omega.{arith}
+use lib.ListN.{length}
+use lib.Dec.{eqb}
+use borrow.Author.Tests.{eqb-true, eqb-false, ne-eqb}
+use Rattle.catalogue.specs.Tests.{pick, keep}
+use Rattle.catalogue.proofs.Picks.{pick-both, clash}
+use Rattle.resting.specs.Members.{All, all-each, all-keep, kept-all, keep-all}
+use Rattle.resting.specs.Keys.{Distinct}
+
+abbrev other : ℕ → ℕ → Bool
+other v y = pick (eqb y v) false true
+
+is-other : (v y : ℕ) → (y ≡ v → ⊥) → other v y ≡ true
+is-other v y h = rw (ne-eqb y v h) refl
+
+not-same : (v y : ℕ) → other v y ≡ true → y ≡ v → ⊥
+not-same v y = pick-both (λ t. t ≡ true → y ≡ v → ⊥) (eqb y v) false true (λ q e. clash (cc)) (λ q e. eqb-false y v q)
+
+distinct-keep : (test : ℕ → Bool) (l : List ℕ) → Distinct l → Distinct (keep test l)
+unfolding keep
+distinct-keep test [] h = tt
+distinct-keep test (x ∷ l) h =
+    let rest = distinct-keep test l (h .1) in
+    pick-both Distinct (test x) (x ∷ keep test l) (keep test l) (λ e. (kept-all (λ y. y ≡ x → ⊥) test l (h .0), rest)) (λ e. rest)
+
+-- one value stands there once at most
+one-less : (v : ℕ) (l : List ℕ) → Distinct l → length l ≤ suc (length (keep (other v) l))
+unfolding keep
+one-less v [] h = omega arith
+one-less v (x ∷ l) h = by (eqb x v) refl (one-less v l (h .1))
+  where
+    by : (t : Bool) → eqb x v ≡ t → length l ≤ suc (length (keep (other v) l)) → length (x ∷ l) ≤ suc (length (keep (other v) (x ∷ l)))
+    by true e b =
+        let same : x ≡ v = eqb-true x v e in
+        rw (e, keep-all (other v) l (all-each (λ y. y ≡ x → ⊥) (λ y. other v y ≡ true) (λ y n. is-other v y (λ q. n (q ∙ sym same))) l (h .0))) (omega arith)
+    by false e b = rw e (omega arith)
+
+pub pigeons : (low size : ℕ) (l : List ℕ) → Distinct l → All (λ x. (low ≤ x) × (x < low + size)) l → length l ≤ size
+pigeons low zero [] d h = omega arith
+pigeons low zero (x ∷ l) d h = let b = h .0 in absurd (omega arith)
+pigeons low (suc size) l d h =
+    let v : ℕ = low + size in
+    let rest =
+    pigeons low size (keep (other v) l) (distinct-keep (other v) l d)
+    (all-each (λ x. ((low ≤ x) × (x < low + suc size)) × (other v x ≡ true)) (λ x. (low ≤ x) × (x < low + size))
+    (λ x b. let n = not-same (low + size) x (b .1) in let c = b .0 in omega arith) (keep (other v) l) (all-keep (λ x. (low ≤ x) × (x < low + suc size)) (other v) l h))
+    in
+    omega (arith, one-less v l d)

@@ -1,0 +1,73 @@
+-- The new number of a vertex in a sweep: its place in the list, which no other member has. Assumes nothing.
+use Prim.Native.Nat.{ℕ, suc, _+_, _≤_, _<_}
+use mathlib.Core.Bool.{Bool, true, false}
+use mathlib.Core.List.{List, [], _∷_, _++_, map}
+use mathlib.Core.Path.{_≡_, refl, sym, ap, _∙_}
+use native.Mathlib.Omega.{arith}
+use lib.ListN.{length, getD}
+use lib.Dec.{eqb}
+use borrow.Author.Tests.{eqb-true, eq-eqb, ne-eqb}
+use Rattle.catalogue.specs.Tests.{pick, member}
+use Rattle.catalogue.specs.Sweep.{position}
+use Rattle.catalogue.proofs.Picks.{clash}
+use Rattle.resting.specs.Members.{All, chosen}
+
+module _ (y : ℕ) where
+  goes : (x : ℕ) (l : List ℕ) (from : ℕ) → position y (x ∷ l) from ≡ pick (eqb y x) from (position y l (suc from))
+  unfolding position
+  goes x l from = chosen (eqb y x) from (position y l (suc from))
+
+  later : (l : List ℕ) (from : ℕ) → position y l (suc from) ≡ suc (position y l from)
+  unfolding position
+  later [] from = refl
+  later (x ∷ l) from = goes x l (suc from) ∙ by (eqb y x) (later l (suc from)) ∙ ap suc (sym (goes x l from))
+    where
+      by : (t : Bool) → position y l (suc (suc from)) ≡ suc (position y l (suc from))
+          → pick t (suc from) (position y l (suc (suc from))) ≡ suc (pick t from (position y l (suc from)))
+      by true e = refl
+      by false e = e
+
+  pub place-from : (l : List ℕ) (from : ℕ) → from ≤ position y l from
+  unfolding position
+  place-from [] from = omega arith
+  place-from (x ∷ l) from = rw (goes x l from) (by (eqb y x) (place-from l (suc from)))
+    where
+      by : (t : Bool) → suc from ≤ position y l (suc from) → from ≤ pick t from (position y l (suc from))
+      by true h = omega arith
+      by false h = omega arith
+
+  pub place-below : (l : List ℕ) (from : ℕ) → member y l ≡ true → position y l from < from + length l
+  unfolding member
+  place-below [] from m = clash (cc)
+  place-below (x ∷ l) from m = rw (goes x l from) (by (eqb y x) m (place-below l (suc from)))
+    where
+      by : (t : Bool) → pick t true (member y l) ≡ true → (member y l ≡ true → position y l (suc from) < suc from + length l)
+          → pick t from (position y l (suc from)) < from + suc (length l)
+      by true m h = omega arith
+      by false m h = let b = h m in omega arith
+
+  pub place-reads : {A : Type 0} (f : ℕ → A) (d : A) (l : List ℕ) → member y l ≡ true → getD (map f l) (position y l 0) d ≡ f y
+  unfolding member
+  place-reads f d [] m = clash (cc)
+  place-reads f d (x ∷ l) m = ap (λ p. getD (map f (x ∷ l)) p d) (goes x l 0) ∙ by (eqb y x) refl m (place-reads f d l)
+    where
+      by : (t : Bool) → eqb y x ≡ t → pick t true (member y l) ≡ true → (member y l ≡ true → getD (map f l) (position y l 0) d ≡ f y)
+          → getD (map f (x ∷ l)) (pick t 0 (position y l 1)) d ≡ f y
+      by true e m h = ap f (sym (eqb-true y x e))
+      by false e m h = ap (λ p. getD (map f (x ∷ l)) p d) (later l 0) ∙ h m
+
+  -- from 2 on, as a sweep counts them
+  pub place-two : (l : List ℕ) → position y l 2 ≡ suc (suc (position y l 0))
+  place-two l = later l 1 ∙ ap suc (later l 0)
+
+  pub place-front : (front rest : List ℕ) (from : ℕ) → All (λ z. z ≡ y → ⊥) front → position y (front ++ y ∷ rest) from ≡ from + length front
+  place-front [] rest from h = goes y rest from ∙ rw (eq-eqb y y refl) (omega arith)
+  place-front (x ∷ front) rest from h =
+      goes x (front ++ y ∷ rest) from
+      ∙ rw (ne-eqb y x (λ e. h .0 (sym e))) (place-front front rest (suc from) (h .1) ∙ (let e : suc from + length front ≡ from + suc (length front) = omega arith in e))
+
+-- no two members have one place
+pub place-apart : (y z : ℕ) (l : List ℕ) → member y l ≡ true → member z l ≡ true → position y l 2 ≡ position z l 2 → y ≡ z
+place-apart y z l m n e =
+    let same : position y l 0 ≡ position z l 0 = omega (arith, e, place-two y l, place-two z l) in
+    sym (place-reads y (λ k. k) 0 l m) ∙ ap (λ p. getD (map (λ k. k) l) p 0) same ∙ place-reads z (λ k. k) 0 l n

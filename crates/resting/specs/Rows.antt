@@ -1,0 +1,92 @@
+-- Numbers in a row: what stands at each, a walk over them, and a list whose members they number. Assumes nothing.
+use Prim.Native.Nat.{ℕ, zero, suc, _+_, _≤_, _<_}
+use mathlib.Core.Bool.{true}
+use mathlib.Core.List.{List, [], _∷_, _++_, map}
+use mathlib.Core.Path.{_≡_, refl, sym, ap, ap₂, _∙_, subst}
+use native.Mathlib.Omega.{arith}
+use lib.ListN.{length, getD, length-append}
+use lib.Dec.{eqb, ltb}
+use lib.Seq.{append-snoc}
+use borrow.Author.Tests.{eqb-false, lt-ltb, le-ltb}
+use Rattle.catalogue.specs.Tests.{pick, member, table-from}
+use Rattle.catalogue.specs.Live.{gather}
+use Rattle.catalogue.proofs.Picks.{pick-both}
+use Rattle.resting.specs.Members.{All}
+use Rattle.resting.specs.Walks.{Ends}
+
+-- so many numbers from one on
+abbrev pub row : ℕ → ℕ → List ℕ
+row from n = table-from (λ i. i) from n
+
+pub length-row : (from n : ℕ) → length (row from n) ≡ n
+unfolding table-from
+length-row from zero = refl
+length-row from (suc n) = ap suc (length-row (suc from) n)
+
+pub all-row : (P : ℕ → Type 0) (from n : ℕ) → ((i : ℕ) → from ≤ i → i < from + n → P i) → All P (row from n)
+unfolding table-from
+all-row P from zero h = tt
+all-row P from (suc n) h = (h from (omega arith) (omega arith), all-row P (suc from) n (λ i a b. h i (omega arith) (omega arith)))
+
+pub member-row : (i from n : ℕ) → from ≤ i → i < from + n → member i (row from n) ≡ true
+unfolding table-from member
+member-row i from zero a b = absurd (omega arith)
+member-row i from (suc n) a b =
+    pick-both (λ t. t ≡ true) (eqb i from) true (member i (row (suc from) n)) (λ e. refl)
+    (λ e. let ne = eqb-false i from e in member-row i (suc from) n (omega arith) (omega arith))
+
+pub row-append : (from a b : ℕ) → row from (a + b) ≡ row from a ++ row (from + a) b
+unfolding table-from
+row-append from zero b = ap₂ row (let e : from ≡ from + 0 = omega arith in e) (let e : 0 + b ≡ b = omega arith in e)
+row-append from (suc a) b =
+    ap (row from) (let e : suc a + b ≡ suc (a + b) = omega arith in e)
+    ∙ ap (λ r. from ∷ r) (row-append (suc from) a b ∙ ap (λ k. row (suc from) a ++ row k b) (let e : suc from + a ≡ from + suc a = omega arith in e))
+
+-- what a function has at each number of a row, where it has what a list has
+pub map-row : {A : Type 0} (d : A) (g : ℕ → A) (l : List A) (from n : ℕ) → length l ≡ n → ((j : ℕ) → j < n → g (from + j) ≡ getD l j d) → map g (row from n) ≡ l
+unfolding table-from
+map-row d g [] from zero e h = refl
+map-row d g [] from (suc n) e h = absurd (omega arith)
+map-row d g (x ∷ l) from zero e h = absurd (omega arith)
+map-row d g (x ∷ l) from (suc n) e h =
+    ap₂ (λ b r. b ∷ r) (ap g (let q : from ≡ from + 0 = omega arith in q) ∙ h 0 (omega arith))
+    (map-row d g l (suc from) n (omega arith) (λ j b. ap g (let q : suc from + j ≡ from + suc j = omega arith in q) ∙ h (suc j) (omega arith)))
+
+-- a walk that goes from each number to the one after it, until before the last
+pub row-ends : (next : ℕ → ℕ) (end last from n : ℕ) → from + n ≡ last
+    → ((i : ℕ) → from ≤ i → i < last → (next i ≡ pick (ltb (suc i) last) (suc i) end) × (i ≡ end → ⊥))
+    → Ends next end (pick (ltb from last) from end) (row from n)
+unfolding table-from
+row-ends next end last from zero e h = rw (le-ltb from last (omega arith)) refl
+row-ends next end last from (suc n) e h =
+    let here = h from (omega arith) (omega arith) in
+    rw (lt-ltb from last (omega arith))
+    (refl, here .1, rw (here .0) (row-ends next end last (suc from) n (omega arith) (λ i a b. h i (omega arith) b)))
+
+-- what holds of each number of a row and of the member of a list that it numbers
+abbrev pub Numbered : (ℕ → ℕ → Type 0) → ℕ → List ℕ → Type 0
+Numbered P from [] = Unit {0}
+Numbered P from (x ∷ l) = P from x × Numbered P (suc from) l
+
+module _ (P : ℕ → ℕ → Type 0) (from : ℕ) where
+  numbered-from : (before l : List ℕ) → ((front : List ℕ) (x : ℕ) (rest : List ℕ) → before ++ l ≡ front ++ x ∷ rest → P (from + length front) x)
+      → (k : ℕ) → from + length before ≡ k → Numbered P k l
+  numbered-from before [] h k e = tt
+  numbered-from before (x ∷ l) h k e = (
+    subst (λ (i : ℕ). P i x) e (h before x l refl),
+    numbered-from (before ++ (x ∷ [])) l (λ front y rest q. h front y rest (sym (append-snoc before x l) ∙ q)) (suc k)
+        (omega (arith, length-append before (x ∷ []))),
+  )
+
+  pub numbered : (l : List ℕ) → ((front : List ℕ) (x : ℕ) (rest : List ℕ) → l ≡ front ++ x ∷ rest → P (from + length front) x) → Numbered P from l
+  numbered l h = numbered-from [] l h from (omega arith)
+
+pub gather-row : {A : Type 0} (g h : ℕ → List A) (from : ℕ) (l : List ℕ) → Numbered (λ i x. g i ≡ h x) from l → gather g (row from (length l)) ≡ gather h l
+unfolding table-from gather
+gather-row g h from [] e = refl
+gather-row g h from (x ∷ l) e = ap₂ _++_ (e .0) (gather-row g h (suc from) l (e .1))
+
+pub each-row : (P : ℕ → Type 0) (from : ℕ) (l : List ℕ) → Numbered (λ i x. P i) from l → All P (row from (length l))
+unfolding table-from
+each-row P from [] h = tt
+each-row P from (x ∷ l) h = (h .0, each-row P (suc from) l (h .1))

@@ -1,0 +1,1 @@
+// No code: the laws of a sweep, over the definitions alone.

@@ -1,0 +1,35 @@
+-- Every step keeps `Sound`, and is one of the moves that hindsight asks for. Assumes nothing.
+use Prim.Native.Nat.{ℕ, zero, suc, _+_, _≤_, _<_}
+use mathlib.Core.Bool.{Bool, true, false}
+use mathlib.Core.Path.{_≡_, refl, sym, ap, _∙_}
+use mathlib.Core.Logic.{_⊎_, inl, inr, ⊎-elim}
+use native.Mathlib.Omega.{arith}
+use lib.IntN.{ℤ}
+use lib.Signed.{_<ℤ_}
+use Rattle.catalogue.specs.Tests.{upd}
+use Rattle.row.specs.Base.{upd-same, upd-at, upd-other, upds, same?, clash, <ℤ-trans}
+use Rattle.row.specs.Links.{Run, stop, go, run-trans, run-tail, View, Reached, Follows, Sorted, run-fold}
+use Rattle.row.specs.Hindsight.{Moves}
+use Rattle.row.specs.Store.{Cat, view, insert, unlink, mark, Inner, Fits, Gone, Stands, Step, rests, inserts, unlinks, marks, Sound}
+use Rattle.row.specs.Insert.{insert-sound, insert-moves}
+use Rattle.row.specs.Unlink.{unlink-sound, unlink-moves}
+use Rattle.row.specs.Mark.{mark-sound, mark-moves}
+
+pub step-sound : {C D : Cat} → Step C D → Sound C → Sound D
+step-sound rests s = s
+step-sound {C} (inserts p k f) s = insert-sound C s p k f
+step-sound {C} (unlinks p g) s = unlink-sound C s p g
+step-sound {C} (marks x w) s = mark-sound C s x w
+
+pub step-moves : {C D : Cat} → Step C D → Sound C → Moves 0 1 (view C) (view D)
+step-moves rests s = record {
+  stays = λ x h. h;
+  key-kept = λ x h. refl;
+  mark-kept = λ x h m. m;
+  link-kept = λ x h n. inl refl;
+  marks-linked = λ x h u m. clash (cc);
+  runs-kept = λ x y h r u. r;
+}
+step-moves {C} (inserts p k f) s = insert-moves C s p k f
+step-moves {C} (unlinks p g) s = unlink-moves C s p g
+step-moves {C} (marks x w) s = mark-moves C s x w

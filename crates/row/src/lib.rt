@@ -1,0 +1,1 @@
+// The proof of demand 3 on a machine of plain lists: see specs/.
