@@ -6,3 +6,5 @@ pub mod Stepping
 pub mod Taking
 pub mod Sweeping
 pub mod Course
+pub mod Scripts
+pub mod Accepted

@@ -1,7 +1,7 @@
 -- Runs that are computed: the promises speak of runs in which edges are added, and in which a loop is refused.
-use Prim.Native.Nat.{ℕ, zero, suc}
-use mathlib.Core.Bool.{true, false}
-use mathlib.Core.List.{List, [], _∷_, _++_}
+use Prim.Native.Nat.{ℕ}
+use mathlib.Core.Bool.{true}
+use mathlib.Core.List.{List, _∷_, _++_}
 use mathlib.Core.Path.{_≡_, refl}
 use lib.IntN.{pos}
 use lib.ListN.{replicate}

@@ -24,9 +24,8 @@ Keyed (takes w code k l) = Key k × Key l
 Keyed (steps w) = Unit {0}
 Keyed sweeps = Unit {0}
 
--- What the types of the calls say by themselves: 1 to 8 workers (another count is refused as such), and keys of 32 bits.
+-- What the calls ask: at most eight workers, and keys of 32 bits, which their types have anyway.
 pub record Given (workers : ℕ) (choices : List Choice) : Type 0 where
-  pub some : 1 ≤ workers
   pub most : workers ≤ 8
   pub keyed : All Keyed choices
 

@@ -1,12 +1,14 @@
 -- Demand 3: what holds of every run. Stated over the definitions that the contracts of the code cite; proved in proofs/.
-use Prim.Native.Nat.{ℕ, _≤_}
-use mathlib.Core.Bool.{Bool, true, false}
+use Prim.Native.Nat.{ℕ}
+use mathlib.Core.Bool.{true, false}
 use mathlib.Core.List.{List}
 use mathlib.Core.Path.{_≡_}
 use lib.IntN.{ℤ}
 use lib.ListN.{length}
 use Rattle.catalogue.specs.Calls.{take-up, step}
 use Rattle.catalogue.specs.Runs.{Choice, takes, steps, sweeps, Moment}
+use Rattle.catalogue.specs.Run.{run}
+use Rattle.catalogue.specs.Script.{Script, good, read-script}
 use Rattle.catalogue.specs.Soundness.{Asks, sweep, sound}
 use Rattle.catalogue.specs.Sweep.{any-busy, sweep-into}
 use Rattle.catalogue.specs.declared.answers.Refusal.the-variants.{Torn}
@@ -39,6 +41,15 @@ abbrev pub SoundAtRest : Type 0
 SoundAtRest =
     (workers : ℕ) (choices : List Choice) → Given workers choices → (asks : Asks)
     → (asks ≡ sweep → any-busy (at workers choices .table) workers ≡ false) → sound asks (at workers choices .catalogue) ≡ true
+
+-- Running a script that is accepted is such a run, so that all this holds of what the drill prints.
+pub record Played (s : Script) : Type 0 where
+  pub choices : List Choice
+  pub given : Given (length (s .counts)) choices
+  pub same : run s .catalogue ≡ at (length (s .counts)) choices .catalogue
+
+abbrev pub ScriptsPlayed : Type 0
+ScriptsPlayed = (text : List ℕ) (s : Script) → read-script text ≡ good s → Played s
 
 -- The answered calls other than those replied 6, 7 and 9 stand in one row: each once, each between its first and its last choice; done one at a time in that
 -- order, from the empty graph, they give the replies that were given and the live graph that there is.

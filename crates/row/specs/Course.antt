@@ -1,27 +1,27 @@
 -- The state invariant of the six operations holds at every moment of every run. Assumes nothing.
-use Prim.Native.Nat.{ℕ, zero, suc, _+_, _≤_, _<_}
-use mathlib.Core.Bool.{Bool, true, false, cond, not, _&&_, _||_}
+use Prim.Native.Nat.{ℕ, zero, suc, _≤_, _<_}
+use mathlib.Core.Bool.{Bool, true, false, cond, _&&_}
 use mathlib.Core.Path.{_≡_, refl, sym, ap, _∙_}
-use mathlib.Core.Logic.{_⊎_, inl, inr, ⊎-elim}
+use mathlib.Core.Logic.{_⊎_, inl, inr}
 use native.Mathlib.Omega.{arith}
 use lib.Dec.{ltb}
 use borrow.Author.Tests.{ltb-true}
-use lib.IntN.{ℤ, pos, negsuc}
-use lib.Signed.{_<ℤ_, ltZ, ltZ-yes}
+use lib.IntN.{ℤ}
+use lib.Signed.{ltZ, ltZ-yes}
 use Rattle.catalogue.specs.Tests.{upd}
 use Rattle.row.specs.Base.{upd-at, upd-other, same?, lt-or, clash, ltZ-true}
-use Rattle.row.specs.Links.{Run, stop, go, View, Follows, Reached, Sorted}
+use Rattle.row.specs.Links.{stop, go, Follows, Reached}
 use Rattle.row.specs.Hindsight.{Moves}
-use Rattle.row.specs.Store.{Cat, view}
+use Rattle.row.specs.Store.{view}
 use Rattle.catalogue.specs.Numbers.{least, greatest}
-use Rattle.row.specs.Machine.{Request, addV, remV, conV, Place, Idle, AddV, RemV, ConV, key-of, begin, legal}
+use Rattle.row.specs.Machine.{conV, key-of}
 use Rattle.row.specs.LiveSet.{and-true}
-use Rattle.row.specs.Does.{Legal, Ok, Serves, begin-ok, Good}
-use Rattle.row.specs.Trace.{Fine, wants, fresh-fine, legal-is}
-use Rattle.row.specs.Edges.{Prev, head, at, Edges, tag-at, key-at, link, Mine, Owned, eview, ESound}
-use Rattle.row.specs.World.{World, Ask, vert, addE, remE, conE, Kind, adds, rems, cons, ask-of, Spot, Rest, Vert, FindU, FindV, LookE, ConE, Trial, Next, move, starts, resting, fits-key, allowed, Choice, takes, steps, sweeps, takable, all-rest, Conf, act, fresh, conf, graph, OnTrial, Untried, Honest}
-use Rattle.row.specs.Graph.{Ends, WGood}
-use Rattle.row.specs.Deeds.{Pair, Own, Ok6, edit, Serves6, own, Deed, ok6-up, deed-rest, Did6, did6-deed, did6-ok, did6-own}
+use Rattle.row.specs.Does.{Legal, begin-ok}
+use Rattle.row.specs.Trace.{wants, fresh-fine, legal-is}
+use Rattle.row.specs.Edges.{Prev, head, at, tag-at, link, Mine, eview}
+use Rattle.row.specs.World.{World, Ask, vert, addE, remE, conE, ask-of, Spot, Rest, Vert, FindU, FindV, LookE, ConE, Trial, move, starts, resting, fits-key, allowed, Choice, takes, steps, sweeps, takable, all-rest, Conf, act, fresh, conf, OnTrial, Untried, Honest}
+use Rattle.row.specs.Graph.{WGood}
+use Rattle.row.specs.Deeds.{Ok6, edit, Serves6, own, Deed, ok6-up, deed-rest, did6-deed, did6-ok, did6-own}
 use Rattle.row.specs.Doing.{did6}
 use Rattle.row.specs.Tried.{move-tried}
 

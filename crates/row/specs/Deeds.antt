@@ -1,31 +1,26 @@
 -- What one step of one worker does, for all six operations. No history. Assumes nothing.
-use Prim.Native.Nat.{ℕ, zero, suc, _+_, _≤_, _<_}
-use mathlib.Core.Bool.{Bool, true, false, cond, not, _&&_, _||_}
-use mathlib.Core.Path.{_≡_, refl, sym, ap, _∙_, fun-ext}
-use mathlib.Core.Logic.{_⊎_, inl, inr, ⊎-elim}
-use mathlib.Core.Option.{Option, none, some}
-use mathlib.Core.List.{List, [], _∷_, _++_}
+use Prim.Native.Nat.{ℕ, suc, _≤_, _<_}
+use mathlib.Core.Bool.{Bool, true, false, not}
+use mathlib.Core.Path.{_≡_, refl, sym, _∙_}
+use mathlib.Core.Logic.{_⊎_, inl, inr}
+use mathlib.Core.Option.{some}
+use mathlib.Core.List.{List, [], _∷_}
 use native.Mathlib.Omega.{arith}
-use lib.IntN.{ℤ, pos, negsuc}
-use lib.Dec.{eqb, leb, ltb}
-use lib.Signed.{_<ℤ_, ltZ, <ℤ-irrefl}
-use borrow.Author.Tests.{eqb-true, eqb-false, eq-eqb, ne-eqb}
-use Rattle.row.specs.Base.{upd-same, upd-at, upd-other, upds, same?, clash, <ℤ-trans, ltZ-true}
-use Rattle.row.specs.Links.{Run, View, Follows, Sorted, Live, gap-dead}
+use lib.IntN.{ℤ}
+use lib.Signed.{_<ℤ_}
+use Rattle.row.specs.Base.{upd-same, upd-at, upd-other, same?, clash}
+use Rattle.row.specs.Links.{Run, View}
 use Rattle.row.specs.Hindsight.{Moves}
-use Rattle.row.specs.Store.{Cat, view, Step, rests, Sound}
-use Rattle.row.specs.Kept.{step-sound, step-moves}
-use Rattle.catalogue.specs.Tests.{eqZ, upd}
-use Rattle.catalogue.specs.Numbers.{least, greatest}
-use Rattle.row.specs.Machine.{Request, addV, remV, conV, Place, Idle, AddV, RemV, ConV, Out, going, replies, live, sequential}
+use Rattle.row.specs.Store.{Cat, view, Step, rests}
+use Rattle.row.specs.Kept.{step-moves}
+use Rattle.row.specs.Machine.{Request, conV, Place, ConV}
 use Rattle.row.specs.Machine
-use Rattle.row.specs.LiveSet.{eqZ-true, eqZ-yes, eqZ-no, not-below, and-true, not-true, Present, present-yes, present-live}
-use Rattle.row.specs.Does.{Legal, Good, Ok, ok-up, Serves, Looks, Missed, Did, on, now, full, walks, missed, did, good-up}
-use Rattle.row.specs.Edges.{Tag, marked, transit, added, Prev, head, at, Edges, is-marked, tag-at, key-at, link, Owned, InList, Mine, eview, ESound, einsert, eunlink, retag, EInner, EFits, EGone, Turns, EStep, erests, einserts, eunlinks, retags}
+use Rattle.row.specs.Does.{Legal, Ok, ok-up, Serves, Looks, Missed, good-up}
+use Rattle.row.specs.Edges.{Tag, marked, transit, added, Prev, head, at, Edges, is-marked, key-at, link, Mine, eview, einsert, eunlink, retag, EFits, EGone, Turns, erests, einserts, eunlinks, retags}
 use Rattle.row.specs.EdgeKept.{estep-sound, estep-moves}
-use Rattle.row.specs.World.{World, with-e, Ask, vert, addE, remE, conE, Kind, adds, rems, cons, ask-of, Spot, Rest, Vert, FindU, FindV, LookE, ConE, Trial, Next, goes, says, spot-of, vmove, VSeen, lower, found, missing, vlook, lost, find-u, find-v, look-at, is-added, con-e, ESeen, e-dead, e-again, e-passes, e-marks, e-onward, e-settle, elook, settle-add, settle-rem, settles, look-e, trial, Opened, closed, opened, Hunt, hunt-from, move, resting, Graph, edges, graph, put-edge, between, alone, in-row}
-use Rattle.row.specs.Older.{Trail, trail-map, LiveE, AddedE, added-live, Older, Safe}
-use Rattle.row.specs.Graph.{Ends, WGood, PresentE, added-is, added-plain, edge-yes, edge-no, IsV, vunique, owner-is, listed, edge-is-c, edges-vstep, edges-insert, edges-unlink, edges-drop, edges-on, edges-off}
+use Rattle.row.specs.World.{World, with-e, Ask, vert, addE, remE, conE, Kind, ask-of, Spot, Rest, Vert, FindU, FindV, LookE, ConE, Trial, Next, goes, says, spot-of, vmove, lost, look-at, is-added, trial, Opened, closed, opened, Hunt, hunt-from, resting, graph, alone, in-row}
+use Rattle.row.specs.Older.{trail-map, LiveE, AddedE, added-live, Older, Safe}
+use Rattle.row.specs.Graph.{Ends, WGood, IsV}
 
 -- ---- what is known of a spot
 

@@ -1,23 +1,23 @@
 -- What one step of one worker does, by cases. No history. Assumes nothing.
-use Prim.Native.Nat.{ℕ, zero, suc, _+_, _≤_, _<_}
+use Prim.Native.Nat.{ℕ, _<_}
 use mathlib.Core.Bool.{Bool, true, false, cond, not, _&&_}
-use mathlib.Core.Path.{_≡_, refl, sym, ap, _∙_, fun-ext}
-use mathlib.Core.Logic.{_⊎_, inl, inr, ⊎-elim}
-use mathlib.Core.Option.{Option, none, some}
+use mathlib.Core.Path.{_≡_, refl, _∙_}
+use mathlib.Core.Logic.{_⊎_, inl, inr}
+use mathlib.Core.Option.{some}
 use native.Mathlib.Omega.{arith}
-use lib.IntN.{ℤ, pos, negsuc}
-use lib.Dec.{eqb, leb, ltb}
+use lib.IntN.{ℤ}
+use lib.Dec.{eqb, leb}
 use lib.Signed.{_<ℤ_, ltZ, <ℤ-irrefl}
-use borrow.Author.Tests.{eqb-true, eqb-false, eq-eqb, ne-eqb}
-use Rattle.row.specs.Base.{upd-same, upd-at, upd-other, upds, same?, clash, <ℤ-trans, ltZ-true}
-use Rattle.row.specs.Links.{View, Follows, Sorted, Live, gap-dead}
+use borrow.Author.Tests.{eqb-true}
+use Rattle.row.specs.Base.{clash, <ℤ-trans, ltZ-true}
+use Rattle.row.specs.Links.{gap-dead}
 use Rattle.row.specs.Hindsight.{Moves}
-use Rattle.row.specs.Store.{Cat, view, insert, unlink, mark, Inner, Fits, Gone, Stands, Step, rests, inserts, unlinks, marks, Sound}
+use Rattle.row.specs.Store.{Cat, view, insert, unlink, mark, Inner, Gone, Stands, Step, rests, inserts, unlinks, marks, Sound}
 use Rattle.row.specs.Kept.{step-sound, step-moves}
-use Rattle.catalogue.specs.Tests.{eqZ, upd}
+use Rattle.catalogue.specs.Tests.{eqZ}
 use Rattle.catalogue.specs.Numbers.{least, greatest}
-use Rattle.row.specs.Machine.{Request, addV, remV, conV, Place, Idle, AddV, RemV, ConV, Out, going, replies, Seen, again, passes, onward, settle, look, add, rem, step, key-of, begin, live, put, sequential}
-use Rattle.row.specs.LiveSet.{eqZ-true, eqZ-yes, eqZ-no, same-key?, not-below, and-true, not-true, Present, present-live, present-yes, present-no, live-unlink, live-insert, live-mark}
+use Rattle.row.specs.Machine.{Request, addV, remV, conV, Place, Idle, AddV, RemV, ConV, Out, going, replies, Seen, again, passes, onward, settle, look, add, rem, step, key-of, begin, live, sequential}
+use Rattle.row.specs.LiveSet.{eqZ-true, eqZ-yes, eqZ-no, not-below, and-true, not-true, Present, present-live, present-yes, present-no, live-unlink, live-insert, live-mark}
 
 -- ---- what is known of a place
 

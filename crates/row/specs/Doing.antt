@@ -1,32 +1,28 @@
 -- Every step of every operation is one of the deeds. No history. Assumes nothing.
-use Prim.Native.Nat.{ℕ, zero, suc, _+_, _≤_, _<_}
+use Prim.Native.Nat.{ℕ, _+_, _<_}
 use mathlib.Core.Bool.{Bool, true, false, cond, not, _&&_, _||_}
-use mathlib.Core.Path.{_≡_, refl, sym, ap, _∙_, fun-ext}
-use mathlib.Core.Logic.{_⊎_, inl, inr, ⊎-elim}
-use mathlib.Core.Option.{Option, none, some}
+use mathlib.Core.Path.{_≡_, refl, sym, ap, _∙_}
+use mathlib.Core.Logic.{_⊎_, inl, inr}
+use mathlib.Core.Option.{none, some}
 use mathlib.Core.List.{List, [], _∷_, _++_}
 use native.Mathlib.Omega.{arith}
-use lib.IntN.{ℤ, pos, negsuc}
-use lib.Dec.{eqb, leb, ltb}
+use lib.IntN.{ℤ}
+use lib.Dec.{eqb, leb}
 use lib.Signed.{_<ℤ_, ltZ, <ℤ-irrefl}
-use borrow.Author.Tests.{eqb-true, eqb-false, eq-eqb, ne-eqb}
-use Rattle.row.specs.Base.{upd-same, upd-at, upd-other, upds, same?, clash, <ℤ-trans, ltZ-true}
-use Rattle.row.specs.Links.{Run, stop, go, run-tail, View, Follows, Sorted, Live, gap-dead}
-use Rattle.row.specs.Hindsight.{Moves}
-use Rattle.row.specs.Store.{Cat, view, Step, rests, Sound}
-use Rattle.row.specs.Kept.{step-sound, step-moves}
+use borrow.Author.Tests.{eqb-true, eqb-false}
+use Rattle.row.specs.Base.{upd-same, upd-at, upd-other, same?, clash, <ℤ-trans, ltZ-true}
+use Rattle.row.specs.Links.{Run, stop, go, run-tail, gap-dead}
+use Rattle.row.specs.Store.{Cat, Step, rests}
 use Rattle.catalogue.specs.Tests.{eqZ, upd}
-use Rattle.catalogue.specs.Numbers.{least, greatest}
-use Rattle.row.specs.Machine.{Request, addV, remV, conV, Place, Idle, AddV, RemV, ConV, Out, going, replies, live, sequential}
+use Rattle.row.specs.Machine.{Request, Place, Idle, AddV, RemV, ConV, Out, live}
 use Rattle.row.specs.Machine
-use Rattle.row.specs.LiveSet.{eqZ-true, eqZ-yes, eqZ-no, not-below, and-true, not-true, Present, present-yes, present-live}
-use Rattle.row.specs.Does.{Legal, Good, Ok, ok-up, Serves, Looks, Missed, Did, on, now, full, walks, missed, did, good-up, not-tail, not-head}
-use Rattle.row.specs.Edges.{Tag, marked, transit, added, Prev, head, at, Edges, is-marked, tag-at, key-at, link, Owned, InList, Mine, eview, ESound, einsert, eunlink, retag, EInner, EFits, EGone, Turns, EStep, erests, einserts, eunlinks, retags}
-use Rattle.row.specs.EdgeKept.{estep-sound, estep-moves}
-use Rattle.row.specs.World.{World, with-e, Ask, vert, addE, remE, conE, Kind, adds, rems, cons, ask-of, Spot, Rest, Vert, FindU, FindV, LookE, ConE, Trial, Next, goes, says, spot-of, vmove, VSeen, lower, found, missing, vlook, lost, find-u, find-v, look-at, is-added, con-e, ESeen, e-dead, e-again, e-passes, e-marks, e-onward, e-settle, elook, settle-add, settle-rem, settles, look-e, trial, Opened, closed, opened, Hunt, hunt-from, stands-at, meets, took, hunt-open, hunt-take, hunts, move, resting, Graph, edges, graph, put-edge, between, alone, in-row}
-use Rattle.row.specs.Older.{Trail, end, via, LiveE, AddedE, Older, Safe}
-use Rattle.row.specs.Graph.{Ends, WGood, PresentE, added-is, added-plain, edge-yes, edge-no, IsV, vunique, owner-is, listed, edge-is-c, edges-vstep, edges-insert, edges-unlink, edges-drop, edges-on, edges-off}
-use Rattle.row.specs.Deeds.{EAims, Pair, Own, Mem, Ahead, StandOk, HuntOk, Ok6, edit, Serves6, own, Fixed, Deed, pair-up, ok6-up, deed-v, deed-rest, deed-unlink, deed-retag, deed-insert, Goes, settled, con-on, u-on, u-found, v-on, v-found, e-looks, e-walks, e-tries, e-trying, EMissed, DeadV, Misses, con-miss, u-miss, v-miss, look-dead, try-dead, con-dead, edge-miss, Did6, does-on, does-now, does-out, does-past}
+use Rattle.row.specs.LiveSet.{eqZ-true, eqZ-yes, eqZ-no, not-below, and-true, not-true, present-yes}
+use Rattle.row.specs.Does.{Legal, Ok, Serves, Missed, Did, on, now, full, walks, missed, did, not-tail, not-head}
+use Rattle.row.specs.Edges.{Tag, marked, transit, added, Prev, head, at, is-marked, tag-at, link, InList, Mine, eview, einsert, eunlink, retag, EInner, Turns}
+use Rattle.row.specs.World.{World, with-e, Ask, vert, addE, conE, Kind, adds, rems, cons, ask-of, Spot, Rest, Vert, FindU, FindV, LookE, ConE, Trial, goes, says, spot-of, vmove, VSeen, lower, found, missing, vlook, lost, find-u, find-v, look-at, is-added, con-e, ESeen, e-dead, e-again, e-passes, e-marks, e-onward, e-settle, elook, look-e, trial, Opened, closed, opened, Hunt, hunt-from, stands-at, meets, took, hunt-open, hunt-take, hunts, move, Graph, edges, graph, between, in-row}
+use Rattle.row.specs.Older.{end, via, LiveE, Older}
+use Rattle.row.specs.Graph.{WGood, PresentE, added-is, added-plain, edge-yes, edge-no, IsV, vunique, listed, edge-is-c, edges-vstep, edges-insert, edges-drop, edges-on, edges-off}
+use Rattle.row.specs.Deeds.{EAims, Pair, Own, Mem, Ahead, HuntOk, Ok6, edit, Serves6, own, Deed, pair-up, ok6-up, deed-v, deed-rest, deed-unlink, deed-retag, deed-insert, settled, con-on, u-on, u-found, v-on, v-found, e-looks, e-walks, e-tries, e-trying, DeadV, con-miss, u-miss, v-miss, look-dead, try-dead, con-dead, edge-miss, Did6, does-on, does-now, does-out, does-past}
 
 -- ---- small
 

@@ -1,17 +1,14 @@
 -- INSERT of an edge, for every list at once. Assumes nothing.
-use Prim.Native.Nat.{ℕ, zero, suc, _+_, _≤_, _<_}
-use mathlib.Core.Bool.{Bool, true, false}
+use Prim.Native.Nat.{ℕ, _<_}
+use mathlib.Core.Bool.{false}
 use mathlib.Core.Path.{_≡_, refl, sym, ap, _∙_}
-use mathlib.Core.Logic.{_⊎_, inl, inr, ⊎-elim}
+use mathlib.Core.Logic.{inl, inr}
 use native.Mathlib.Omega.{arith}
 use lib.IntN.{ℤ}
-use lib.Signed.{_<ℤ_}
-use Rattle.catalogue.specs.Tests.{upd}
-use Rattle.row.specs.Base.{upd-same, upd-at, upd-other, upds, same?, clash, <ℤ-trans}
-use Rattle.row.specs.Links.{Run, stop, go, run-trans, run-tail, View, Reached, Follows, Sorted, run-fold}
+use Rattle.row.specs.Base.{upd-same, upd-at, upd-other, upds, same?, clash}
+use Rattle.row.specs.Links.{Run, stop, go, run-trans, Reached, Follows, run-fold}
 use Rattle.row.specs.Hindsight.{Moves}
-use Rattle.catalogue.specs.Numbers.{least}
-use Rattle.row.specs.Edges.{Tag, marked, transit, added, Prev, head, at, Edges, is-marked, link, tag-at, key-at, InList, Mine, eview, ESound, einsert, eunlink, retag, EInner, EFits, EGone, Turns, EStep, erests, einserts, eunlinks, retags}
+use Rattle.row.specs.Edges.{Prev, head, at, Edges, is-marked, link, tag-at, key-at, InList, Mine, eview, ESound, einsert, EInner, EFits}
 
 module _ (E : Edges) (s : ESound E) (u v : ℕ) (k : ℤ) where
   abbrev D : Prev → Edges

@@ -1,17 +1,12 @@
 -- RETAG of an edge; and every step of the edge lists. Assumes nothing.
-use Prim.Native.Nat.{ℕ, zero, suc, _+_, _≤_, _<_}
-use mathlib.Core.Bool.{Bool, true, false}
+use Prim.Native.Nat.{ℕ}
+use mathlib.Core.Bool.{true, false}
 use mathlib.Core.Path.{_≡_, refl, sym, ap, _∙_}
-use mathlib.Core.Logic.{_⊎_, inl, inr, ⊎-elim}
+use mathlib.Core.Logic.{inl, inr}
 use native.Mathlib.Omega.{arith}
-use lib.IntN.{ℤ}
-use lib.Signed.{_<ℤ_}
-use Rattle.catalogue.specs.Tests.{upd}
-use Rattle.row.specs.Base.{upd-same, upd-at, upd-other, upds, same?, clash, <ℤ-trans}
-use Rattle.row.specs.Links.{Run, stop, go, run-trans, run-tail, View, Reached, Follows, Sorted, run-fold}
+use Rattle.row.specs.Base.{upd-other, same?, clash}
 use Rattle.row.specs.Hindsight.{Moves}
-use Rattle.catalogue.specs.Numbers.{least}
-use Rattle.row.specs.Edges.{Tag, marked, transit, added, Prev, head, at, Edges, is-marked, link, tag-at, key-at, InList, Mine, eview, ESound, einsert, eunlink, retag, EInner, EFits, EGone, Turns, EStep, erests, einserts, eunlinks, retags}
+use Rattle.row.specs.Edges.{Tag, Prev, head, at, Edges, is-marked, link, tag-at, eview, ESound, retag, Turns, EStep, erests, einserts, eunlinks, retags}
 use Rattle.row.specs.EdgeInsert.{einsert-sound, einsert-moves}
 use Rattle.row.specs.EdgeUnlink.{eunlink-sound, eunlink-moves}
 

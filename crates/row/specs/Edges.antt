@@ -1,5 +1,5 @@
 -- The edge lists: node 0 the tail of each, 1 .. used - 1 handed out, `owner` (a ghost) says whose list a node is in. Assumes nothing.
-use Prim.Native.Nat.{ℕ, zero, suc, _+_, _≤_, _<_}
+use Prim.Native.Nat.{ℕ, suc, _≤_, _<_}
 use mathlib.Core.Bool.{Bool, true, false}
 use mathlib.Core.Path.{_≡_}
 use mathlib.Core.Logic.{_⊎_}

@@ -1,14 +1,12 @@
 -- No live graph of a run has a loop; and the row with the loop condition: an AddE answered 1 stands in the row at a graph where its edge
 -- closes none. Assumes nothing.
-use Prim.Native.Nat.{ℕ, zero, suc, _<_}
+use Prim.Native.Nat.{ℕ, suc, _<_}
 use mathlib.Core.Bool.{Bool, true, false, cond, _&&_}
 use mathlib.Core.Path.{_≡_, refl, sym, ap, _∙_}
-use mathlib.Core.Logic.{_⊎_, inl, inr}
 use mathlib.Core.List.{List}
 use native.Mathlib.Omega.{arith}
 use lib.IntN.{ℤ}
-use Rattle.row.specs.Base.{clash}
-use Rattle.row.specs.Row.{Call, History, Entry, by, Explains, Event, quiet, acts, looks}
+use Rattle.row.specs.Row.{Entry, by, Explains, Event, quiet, acts, looks}
 use Rattle.row.specs.Assemble.{assemble}
 use Rattle.catalogue.specs.Tests.{eqZ}
 use Rattle.row.specs.LiveSet.{eqZ-refl}

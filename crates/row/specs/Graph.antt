@@ -1,24 +1,23 @@
 -- The live graph: when an edge is in it, and what each change does to it. Assumes nothing.
-use Prim.Native.Nat.{ℕ, zero, suc, _+_, _≤_, _<_}
-use mathlib.Core.Bool.{Bool, true, false, cond, not, _&&_, _||_}
+use Prim.Native.Nat.{ℕ, zero, suc, _≤_, _<_}
+use mathlib.Core.Bool.{Bool, true, false, cond, not, _&&_}
 use mathlib.Core.Path.{_≡_, refl, sym, ap, _∙_, fun-ext}
-use mathlib.Core.Logic.{_⊎_, inl, inr, ⊎-elim}
+use mathlib.Core.Logic.{_⊎_, inl, inr}
 use native.Mathlib.Omega.{arith}
-use lib.IntN.{ℤ, pos, negsuc}
-use lib.Dec.{eqb, leb, ltb}
-use lib.Signed.{_<ℤ_, ltZ, <ℤ-irrefl}
+use lib.IntN.{ℤ}
+use lib.Dec.{leb}
 use borrow.Author.Tests.{leb-true, le-leb}
-use Rattle.row.specs.Base.{upd-same, upd-at, upd-other, upds, same?, clash}
-use Rattle.row.specs.Links.{View, Reached, Sorted, Live, unique, marked-dead}
+use Rattle.row.specs.Base.{upd-same, upd-at, upd-other, same?, clash}
+use Rattle.row.specs.Links.{Live, unique, marked-dead}
 use Rattle.row.specs.Hindsight.{Moves}
-use Rattle.row.specs.Store.{Cat, view, Step, Sound}
+use Rattle.row.specs.Store.{Cat, view, Step}
 use Rattle.row.specs.Kept.{step-sound, step-moves}
-use Rattle.catalogue.specs.Tests.{eqZ, upd}
+use Rattle.catalogue.specs.Tests.{eqZ}
 use Rattle.catalogue.specs.Numbers.{greatest}
 use Rattle.row.specs.Machine.{live}
-use Rattle.row.specs.LiveSet.{eqZ-true, eqZ-yes, eqZ-no, same-key?, and-true, not-true, cond-or, bool-iff, Present, present-live, present-yes, yes-present, present-no}
+use Rattle.row.specs.LiveSet.{eqZ-true, eqZ-yes, eqZ-no, same-key?, and-true, not-true, cond-or, bool-iff, present-live, present-yes, yes-present}
 use Rattle.row.specs.Does.{Good}
-use Rattle.row.specs.Edges.{Tag, marked, transit, added, Prev, head, at, Edges, is-marked, tag-at, key-at, link, Owned, InList, Mine, eview, ESound, einsert, eunlink, retag}
+use Rattle.row.specs.Edges.{Tag, marked, transit, added, Prev, head, at, is-marked, link, InList, eview, ESound, einsert, eunlink, retag}
 use Rattle.row.specs.Older.{Safe}
 use Rattle.row.specs.World.{World, with-e, is-added, is-edge, has-edge, edges, put-edge, between}
 

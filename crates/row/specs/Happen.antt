@@ -1,30 +1,28 @@
 -- Each event of a run of the six operations is quiet, acts, or looks. Assumes nothing.
-use Prim.Native.Nat.{ℕ, zero, suc, _+_, _≤_, _<_}
-use mathlib.Core.Bool.{Bool, true, false, cond, not, _&&_, _||_, and-false}
+use Prim.Native.Nat.{ℕ, zero, suc, _≤_, _<_}
+use mathlib.Core.Bool.{Bool, true, false, cond, _&&_, and-false}
 use mathlib.Core.Path.{_≡_, refl, sym, ap, _∙_}
-use mathlib.Core.Logic.{_⊎_, inl, inr, ⊎-elim}
-use mathlib.Core.Option.{Option, none, some}
+use mathlib.Core.Logic.{_⊎_, inl, inr}
+use mathlib.Core.Option.{none, some}
 use native.Mathlib.Omega.{arith}
-use lib.IntN.{ℤ, pos, negsuc}
-use lib.Dec.{eqb, leb, ltb}
-use lib.Signed.{_<ℤ_, ltZ}
-use borrow.Author.Tests.{eqb-true, eqb-false, eq-eqb, ne-eqb}
+use lib.IntN.{ℤ}
+use lib.Dec.{eqb, ltb}
+use borrow.Author.Tests.{eq-eqb, ne-eqb}
 use Rattle.catalogue.specs.Tests.{upd}
 use Rattle.row.specs.Base.{upd-at, upd-other, same?, clash}
-use Rattle.row.specs.Row.{Call, History, by, Event, quiet, acts, looks}
+use Rattle.row.specs.Row.{Call, by, Event, quiet, acts, looks}
 use Rattle.row.specs.Links.{View, Sorted, Live, stop}
 use Rattle.row.specs.Hindsight.{Moves, Dead, Standing, stand-wait, stand-move, dead-above, dead-marked, marked-between, stays-in, key-stays, plain-before}
-use Rattle.row.specs.Store.{Cat, view}
-use Rattle.catalogue.specs.Numbers.{least, greatest}
-use Rattle.row.specs.Machine.{Request, addV, remV, conV, Place, Idle, AddV, RemV, ConV, begin, live}
-use Rattle.row.specs.LiveSet.{and-true, Present, present-live, present-yes, present-no}
-use Rattle.row.specs.Does.{Legal, Looks, Missed, Serves}
-use Rattle.row.specs.Edges.{Prev, head, at, is-marked, eview}
-use Rattle.row.specs.World.{World, Ask, vert, addE, remE, conE, Kind, adds, rems, cons, ask-of, Spot, Rest, Vert, FindU, FindV, LookE, ConE, Trial, Next, spot-of, lost, look-at, move, starts, resting, allowed, Choice, takes, steps, sweeps, takable, all-rest, Honest, Conf, act, conf, opens, Began, since, began, close, said, answered, edges, graph, between, alone, in-row, counts, history}
-use Rattle.row.specs.Graph.{WGood, PresentE, edge-no, IsV, listed, edges-vstep}
-use Rattle.row.specs.Deeds.{Pair, Ok6, edit, Serves6, Goes, settled, con-on, u-on, u-found, v-on, v-found, e-looks, e-walks, e-tries, e-trying, EMissed, DeadV, Misses, con-miss, u-miss, v-miss, look-dead, try-dead, con-dead, edge-miss, Did6, does-on, does-now, does-out, does-past, busy-before}
+use Rattle.row.specs.Store.{view}
+use Rattle.row.specs.Machine.{addV, remV, conV, Place, Idle, AddV, RemV, ConV, live}
+use Rattle.row.specs.LiveSet.{and-true, present-live, present-yes, present-no}
+use Rattle.row.specs.Does.{Legal, Looks, Missed}
+use Rattle.row.specs.Edges.{Prev, head, at, eview}
+use Rattle.row.specs.World.{World, Ask, vert, addE, remE, conE, Kind, adds, rems, cons, ask-of, Spot, Rest, Vert, FindU, FindV, LookE, ConE, Trial, Next, spot-of, lost, look-at, move, starts, resting, allowed, Choice, takes, steps, sweeps, takable, all-rest, Honest, act, conf, opens, Began, since, began, close, said, answered, edges, graph, alone, counts, history}
+use Rattle.row.specs.Graph.{WGood, edge-no, IsV, listed}
+use Rattle.row.specs.Deeds.{Serves6, Goes, settled, con-on, u-on, u-found, v-on, v-found, e-looks, e-walks, e-tries, e-trying, EMissed, DeadV, Misses, con-miss, u-miss, v-miss, look-dead, try-dead, con-dead, edge-miss, Did6, does-on, does-now, does-out, does-past, busy-before}
 use Rattle.row.specs.Doing.{did6, same-between}
-use Rattle.row.specs.Course.{Fine6, fine6, Both, moves6, both6, first-key, starts-legal}
+use Rattle.row.specs.Course.{fine6, Both, moves6, both6, first-key, starts-legal}
 
 -- ---- a call whose vertex is not live
 

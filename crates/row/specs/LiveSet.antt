@@ -1,17 +1,17 @@
 -- The live set: when a key is in it, and what each change does to it. Assumes nothing.
-use Prim.Native.Nat.{ℕ, zero, suc, _+_, _≤_, _<_}
+use Prim.Native.Nat.{ℕ, zero, suc, _≤_, _<_}
 use mathlib.Core.Bool.{Bool, true, false, cond, not, _&&_}
 use mathlib.Core.Path.{_≡_, refl, sym, ap, _∙_, fun-ext}
-use mathlib.Core.Logic.{_⊎_, inl, inr, ⊎-elim}
+use mathlib.Core.Logic.{_⊎_, inl, inr}
 use native.Mathlib.Omega.{arith}
 use lib.IntN.{ℤ, pos, negsuc}
-use lib.Dec.{eqb, leb, ltb}
-use lib.Signed.{_<ℤ_, ltZ, <ℤ-irrefl}
-use borrow.Author.Tests.{eqb-true, eqb-false, eq-eqb, ne-eqb, leb-true, leb-false, le-leb, ltb-true}
-use Rattle.row.specs.Base.{upd-same, upd-at, upd-other, upds, same?, clash, <ℤ-trans, ltZ-true, Tri, below, equal, above, tri}
-use Rattle.row.specs.Links.{View, Sorted, Live, unique}
-use Rattle.row.specs.Store.{Cat, view, insert, unlink, mark, Sound, Stands, Fits}
-use Rattle.catalogue.specs.Tests.{eqZ, upd}
+use lib.Dec.{leb}
+use lib.Signed.{_<ℤ_, ltZ}
+use borrow.Author.Tests.{eqb-true, eq-eqb, leb-true, le-leb}
+use Rattle.row.specs.Base.{upd-at, upd-other, upds, same?, clash, Tri, below, equal, above, tri}
+use Rattle.row.specs.Links.{Live, unique}
+use Rattle.row.specs.Store.{Cat, view, insert, unlink, mark, Sound, Stands}
+use Rattle.catalogue.specs.Tests.{eqZ}
 use Rattle.row.specs.Machine.{is-live, has, live, put}
 
 -- ---- tests

@@ -1,12 +1,11 @@
 -- The toy: AddV, RemV and ConV of document 01, step by step, by any number of workers; runs, their history, the live set, and what a
 -- call does alone. `OneRow` is the theorem (proved in Theorem). Nothing is proved here. Assumes nothing.
-use Prim.Native.Nat.{ℕ, zero, suc, _+_, _≤_, _<_}
+use Prim.Native.Nat.{ℕ, zero, suc}
 use mathlib.Core.Bool.{Bool, true, false, cond, not, _&&_}
-use mathlib.Core.Path.{_≡_}
-use mathlib.Core.List.{List, [], _∷_}
+use mathlib.Core.List.{List}
 use mathlib.Core.Option.{Option, none, some}
-use lib.IntN.{ℤ, pos, negsuc}
-use lib.Dec.{eqb, leb, ltb}
+use lib.IntN.{ℤ, pos}
+use lib.Dec.{eqb, leb}
 use lib.Signed.{ltZ}
 use lib.ListN.{length, getD}
 use Rattle.catalogue.specs.Tests.{eqZ, upd}

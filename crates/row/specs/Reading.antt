@@ -1,18 +1,18 @@
 -- The live graph as document 01 words it: vertices reached from the head, other than head and tail, and not marked; ADDED edges in their
 -- lists whose target is not marked. In every good world this is what `graph` says. Assumes nothing.
-use Prim.Native.Nat.{ℕ, zero, suc, _≤_, _<_}
-use mathlib.Core.Bool.{Bool, true, false}
-use mathlib.Core.Path.{_≡_, refl, sym, ap, _∙_}
-use mathlib.Core.Logic.{_↔_, _⊎_, inl, inr}
+use Prim.Native.Nat.{ℕ}
+use mathlib.Core.Bool.{true, false}
+use mathlib.Core.Path.{_≡_, refl}
+use mathlib.Core.Logic.{_↔_, inl, inr}
 use native.Mathlib.Omega.{arith}
 use lib.IntN.{ℤ}
-use Rattle.row.specs.Links.{Run, reached-in, Reached}
+use Rattle.row.specs.Links.{reached-in, Reached}
 use Rattle.row.specs.Store.{Cat, view, Sound}
 use Rattle.row.specs.Machine.{live}
-use Rattle.row.specs.LiveSet.{Present, present-yes, yes-present}
-use Rattle.row.specs.Edges.{Prev, head, at, added, Mine, Owned, InList, eview}
+use Rattle.row.specs.LiveSet.{present-yes, yes-present}
+use Rattle.row.specs.Edges.{head, at, added, Mine, InList, eview}
 use Rattle.row.specs.World.{World, edges}
-use Rattle.row.specs.Graph.{WGood, PresentE, edge-yes, yes-edge, added-plain}
+use Rattle.row.specs.Graph.{WGood, edge-yes, yes-edge, added-plain}
 
 pub record Stands (C : Cat) (k : ℤ) (x : ℕ) : Type 0 where
   pub reached : Reached 0 1 (view C) x

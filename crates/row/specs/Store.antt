@@ -1,5 +1,5 @@
 -- The vertex list of document 01: node 0 the head, 1 the tail, 2 .. used - 1 handed out. Its three changes. Assumes nothing.
-use Prim.Native.Nat.{ℕ, zero, suc, _+_, _≤_, _<_}
+use Prim.Native.Nat.{ℕ, suc, _≤_, _<_}
 use mathlib.Core.Bool.{Bool, true, false}
 use mathlib.Core.Path.{_≡_}
 use lib.IntN.{ℤ}

@@ -1,20 +1,18 @@
 -- The state invariant holds at every moment of every run, and every event moves the list as hindsight asks. Assumes nothing.
-use Prim.Native.Nat.{ℕ, zero, suc, _+_, _≤_, _<_}
-use mathlib.Core.Bool.{Bool, true, false, cond, not, _&&_}
-use mathlib.Core.Path.{_≡_, refl, sym, ap, _∙_}
-use mathlib.Core.Logic.{_⊎_, inl, inr, ⊎-elim}
+use Prim.Native.Nat.{ℕ, zero, suc, _<_}
+use mathlib.Core.Bool.{Bool, true, false, cond, _&&_}
+use mathlib.Core.Path.{_≡_, refl, sym}
+use mathlib.Core.Logic.{inl, inr}
 use native.Mathlib.Omega.{arith}
-use lib.IntN.{ℤ, pos, negsuc}
-use lib.Dec.{eqb, leb, ltb}
-use lib.Signed.{_<ℤ_, ltZ, ltZ-yes}
+use lib.Signed.{ltZ, ltZ-yes}
 use Rattle.catalogue.specs.Tests.{upd}
-use Rattle.row.specs.Base.{upd-at, upd-other, same?, clash, ltZ-true}
-use Rattle.row.specs.Links.{Run, stop, go, View, Follows, Sorted}
+use Rattle.row.specs.Base.{upd-at, upd-other, same?, ltZ-true}
+use Rattle.row.specs.Links.{Run, stop, go, Follows}
 use Rattle.row.specs.Hindsight.{Moves}
-use Rattle.row.specs.Store.{Cat, view, Step, rests, Sound}
-use Rattle.row.specs.Kept.{step-sound, step-moves}
+use Rattle.row.specs.Store.{view, Step, rests}
+use Rattle.row.specs.Kept.{step-moves}
 use Rattle.catalogue.specs.Numbers.{least, greatest}
-use Rattle.row.specs.Machine.{Request, addV, remV, conV, Place, Idle, AddV, RemV, ConV, Out, step, key-of, begin, free, legal, Choice, takes, steps, Conf, act, fresh, conf}
+use Rattle.row.specs.Machine.{Request, addV, remV, conV, Place, Idle, AddV, RemV, ConV, step, key-of, begin, free, legal, Choice, takes, steps, Conf, act, fresh, conf}
 use Rattle.row.specs.LiveSet.{and-true}
 use Rattle.row.specs.Does.{Legal, Ok, Serves, ok-up, Good, did, did-step, did-ok, begin-ok, good-up}
 

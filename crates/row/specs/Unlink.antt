@@ -1,16 +1,14 @@
 -- UNLINK keeps `Sound`, and is one of the moves that hindsight asks for. Assumes nothing.
-use Prim.Native.Nat.{ℕ, zero, suc, _+_, _≤_, _<_}
-use mathlib.Core.Bool.{Bool, true, false}
-use mathlib.Core.Path.{_≡_, refl, sym, ap, _∙_}
-use mathlib.Core.Logic.{_⊎_, inl, inr, ⊎-elim}
+use Prim.Native.Nat.{ℕ, _<_}
+use mathlib.Core.Bool.{false}
+use mathlib.Core.Path.{_≡_, refl, ap, _∙_}
+use mathlib.Core.Logic.{inl, inr}
 use native.Mathlib.Omega.{arith}
-use lib.IntN.{ℤ}
 use lib.Signed.{_<ℤ_}
-use Rattle.catalogue.specs.Tests.{upd}
-use Rattle.row.specs.Base.{upd-same, upd-at, upd-other, upds, same?, clash, <ℤ-trans}
-use Rattle.row.specs.Links.{Run, stop, go, run-trans, run-tail, View, Reached, Follows, Sorted, run-fold}
+use Rattle.row.specs.Base.{upd-other, upds, same?, clash, <ℤ-trans}
+use Rattle.row.specs.Links.{Run, go, run-tail, Reached, Follows, run-fold}
 use Rattle.row.specs.Hindsight.{Moves}
-use Rattle.row.specs.Store.{Cat, view, insert, unlink, mark, Inner, Fits, Gone, Stands, Step, rests, inserts, unlinks, marks, Sound}
+use Rattle.row.specs.Store.{Cat, view, unlink, mark, Gone, Sound}
 
 module _ (C : Cat) (s : Sound C) (p : ℕ) (g : Gone C p) where
   abbrev D : Cat

@@ -1,7 +1,5 @@
 -- A chain of derivations, read off the lines of a listing. Assumes nothing.
-use Prim.Native.Nat.{ℕ}
 use mathlib.Core.List.{List, [], _∷_}
-use mathlib.Core.Path.{_≡_}
 use lib.IntN.{ℤ}
 use Rattle.catalogue.specs.Catalogue.{Catalogue}
 use Rattle.catalogue.specs.Listing.{edge-lines}

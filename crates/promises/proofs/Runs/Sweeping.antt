@@ -6,7 +6,6 @@ use mathlib.Core.Path.{_≡_, refl, sym, ap, _∙_, subst}
 use mathlib.Core.Logic.{inl, inr}
 use native.Mathlib.Omega.{arith}
 use Rattle.catalogue.specs.Tests.{pick}
-use Rattle.catalogue.specs.Catalogue.{Catalogue}
 use Rattle.catalogue.specs.Calls.{count-fits}
 use Rattle.catalogue.specs.Runs.{Moment}
 use Rattle.catalogue.specs.Soundness.{sound}
@@ -22,7 +21,7 @@ use Rattle.row.specs.World
 use Rattle.row.specs.World.{World, Spot, Rest, resting, all-rest, Untried, Conf, Choice, steps, sweeps, act}
 use Rattle.row.specs.Graph.{WGood}
 use Rattle.row.specs.Course.{act-fine6, rest-untried}
-use Rattle.promises.proofs.Showing.Shows.{Shows, Shown}
+use Rattle.promises.proofs.Showing.Shows.{Shown}
 use Rattle.promises.proofs.Showing.Tests.{neither}
 use Rattle.promises.proofs.Lists.AtRest.{rest-sound}
 use Rattle.promises.proofs.Sweeps.Well.{Swept, sweeps-well}
