@@ -5,3 +5,4 @@ pub mod Steps
 pub mod Lists
 pub mod Sweeps
 pub mod Runs
+pub mod Rows

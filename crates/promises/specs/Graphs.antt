@@ -11,6 +11,9 @@ pub record Graph : Type 0 where
   pub series : ℤ → Bool
   pub derived : ℤ → ℤ → Bool
 
+abbrev pub empty : Graph
+empty = record { series = λ k. false; derived = λ k l. false }
+
 -- a line of numbers stands among others
 unfoldable pub same-line : List ℤ → List ℤ → Bool
 same-line [] [] = true

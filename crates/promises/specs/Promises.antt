@@ -16,7 +16,7 @@ use Rattle.catalogue.specs.declared.answers.Answer.the-variants as answer
 use Rattle.catalogue.specs.declared.answers.Made.the-variants as made
 use Rattle.row.specs.Row.{Entry, Explains}
 use Rattle.promises.specs.Moments.{Keyed, Given, at}
-use Rattle.promises.specs.Graphs.{Graph, live, Walk}
+use Rattle.promises.specs.Graphs.{Graph, empty, live, Walk}
 use Rattle.promises.specs.Alone.{Ask, Alone}
 use Rattle.promises.specs.Histories.{history, in-row}
 
@@ -57,6 +57,10 @@ abbrev pub OneRow : Type 0
 OneRow =
     (workers : ℕ) (choices : List Choice) → Given workers choices
     → (row : List (Entry Ask ℕ)) × Explains Alone in-row (history workers choices) (length choices) row
+
+-- The graph that the row begins with is the empty one.
+abbrev pub BeginsEmpty : Type 0
+BeginsEmpty = (workers : ℕ) (choices : List Choice) → history workers choices .live 0 ≡ empty
 
 -- A call that is alone has one outcome, whatever is asked, on every live graph of a run.
 pub record Outcome (g : Graph) (q : Ask) : Type 0 where

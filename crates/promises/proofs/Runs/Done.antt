@@ -1,6 +1,6 @@
 -- What is shown of every call: the machine makes a choice of its own that leaves the same and answers the same. A refused call changes nothing. Assumes nothing.
 use Prim.Native.Nat.{ℕ, _≤_, _<_}
-use mathlib.Core.Option.{Option, none, some}
+use mathlib.Core.Option.{Option, none}
 use mathlib.Core.Path.{_≡_, sym, ap, _∙_}
 use mathlib.Core.Logic.{inl, inr}
 use native.Mathlib.Omega.{arith}
@@ -18,10 +18,14 @@ use Rattle.catalogue.specs.declared.answers.Answer.the-variants as answer
 use Rattle.catalogue.specs.declared.workers.Worker.{Worker}
 use Rattle.catalogue.proofs.Picks.{pick-both}
 use Rattle.row.specs.Base.{upd-at, upd-other, same?, clash}
-use Rattle.row.specs.World.{World, Spot, Rest, move, Conf, Choice, takes, steps, sweeps, act}
+use Rattle.row.specs.Row.{Call}
+use Rattle.row.specs.World.{World, Spot, Rest, move, Conf, Choice, steps, close, act}
 use Rattle.row.specs.Course.{Fine6, act-fine6}
 use Rattle.promises.proofs.Showing.Shows.{Shows, Shown}
 use Rattle.promises.proofs.Showing.Tests.{second}
+use Rattle.promises.specs.Alone.{Ask}
+use Rattle.promises.specs.Histories.{Begun}
+use Rattle.promises.proofs.Runs.Telling.{begun-of, answered-of, Same}
 use Rattle.promises.proofs.Runs.Held.{Held, shown-up, put-there, put-else, put-eight}
 
 -- ---- one worker's record and spot are replaced
@@ -46,22 +50,18 @@ module _ (workers : ℕ) (m : Moment) (X : Conf) (h : Held workers m X) (v : ℕ
 
 -- ---- what one call does
 
-abbrev pub replied : Answer → Option ℕ
-replied (answer.Going met) = none
-replied (answer.Reply n) = some n
-replied (answer.Refused r) = none
+-- What a call of the host tells by its answer: what it takes up for each worker, and the call that it answers. A refusal tells nothing.
+pub record Tells : Type 0 where
+  pub up : Answer → ℕ → Option Ask
+  pub call : Answer → (ℕ → Begun) → Option (Call Ask ℕ)
+  pub no-up : (r : Refusal) (w : ℕ) → up (answer.Refused r) w ≡ none
+  pub no-call : (r : Refusal) (b : ℕ → Begun) → call (answer.Refused r) b ≡ none
 
--- what the machine answers to a choice
-abbrev pub heard : Conf → Choice → Option ℕ
-heard X (takes w q) = none
-heard X (steps w) = move (X .world) (X .at w) .answer
-heard X (sweeps W) = none
-
--- After a call the machine has made a choice of its own, which leaves what the call leaves and answers what it replies; and the call was not torn.
-pub record Done (workers : ℕ) (X : Conf) (a : After) : Type 0 where
+-- After a call the machine has made a choice of its own, which leaves what the call leaves and tells what it tells; and the call was not torn.
+pub record Done (workers : ℕ) (X : Conf) (t : Tells) (a : After) : Type 0 where
   pub choice : Choice
   pub held : Held workers (record { catalogue = a .catalogue; table = a .table }) (act X choice)
-  pub same-reply : replied (a .answer) ≡ heard X choice
+  pub same : Same X choice (t .up (a .answer)) (t .call (a .answer))
   pub whole : a .answer ≡ answer.Refused refusal.Torn → ⊥
 
 module _ (workers : ℕ) (m : Moment) (X : Conf) (h : Held workers m X) (most : workers ≤ 8) where
@@ -89,20 +89,29 @@ module _ (workers : ℕ) (m : Moment) (X : Conf) (h : Held workers m X) (most : 
     beyond = λ w l. quiet-at w ∙ h .beyond w l;
   }
 
+  -- and tells nothing
+  pub quiet-same : (up : ℕ → Option Ask) (call : (ℕ → Begun) → Option (Call Ask ℕ)) → ((w : ℕ) → up w ≡ none) → ((b : ℕ → Begun) → call b ≡ none)
+      → Same X (steps 8) up call
+  quiet-same up call u c = record {
+    taken = λ w. sym (u w);
+    answered = λ b. ap (λ s. answered-of (close (b 8) (move (X .world) s .answer))) nobody ∙ sym (c (λ w. begun-of (b w)));
+    honest = λ W e. clash (cc);
+  }
+
   -- a refused call: nothing changes
-  pub refused : (r : Refusal) → (r ≡ refusal.Torn → ⊥) → Done workers X (refuse (m .catalogue) (m .table) r)
-  refused r n = record {
+  pub refused : (t : Tells) (r : Refusal) → (r ≡ refusal.Torn → ⊥) → Done workers X t (refuse (m .catalogue) (m .table) r)
+  refused t r n = record {
     choice = steps 8;
     held = quiet;
-    same-reply = sym (ap (λ s. move (X .world) s .answer) nobody);
+    same = quiet-same (t .up (answer.Refused r)) (t .call (answer.Refused r)) (t .no-up r) (t .no-call r);
     whole = λ e. n (cc);
   }
 
   -- so is a call for a worker that the table does not have
-  pub in-table : (v : ℕ) (a : After) → (v < workers → Done workers X a)
-      → Done workers X (pick (worker-fits (m .table .count) v) a (refuse (m .catalogue) (m .table) refusal.Worker))
+  pub in-table : (t : Tells) (v : ℕ) (a : After) → (v < workers → Done workers X t a)
+      → Done workers X t (pick (worker-fits (m .table .count) v) a (refuse (m .catalogue) (m .table) refusal.Worker))
   unfolding worker-fits
-  in-table v a f =
-      pick-both (Done workers X) (worker-fits (m .table .count) v) _ _
+  in-table t v a f =
+      pick-both (Done workers X t) (worker-fits (m .table .count) v) _ _
       (λ e. f (omega (arith, ltb-true v (m .table .count) (second (count-fits (m .table .count)) (ltb v (m .table .count)) e), h .counted)))
-      (λ e. refused refusal.Worker (λ z. clash (cc)))
+      (λ e. refused t refusal.Worker (λ z. clash (cc)))

@@ -1,6 +1,7 @@
 -- A choice to step: where it is refused nothing changes, and else the machine makes the same move. Assumes nothing.
 use Prim.Native.Nat.{ℕ, suc, _≤_, _<_}
 use mathlib.Core.Bool.{true, not}
+use mathlib.Core.Option.{Option, none, some}
 use mathlib.Core.Path.{_≡_, refl, sym, ap, _∙_, subst}
 use native.Mathlib.Omega.{arith}
 use Rattle.catalogue.specs.Catalogue.{Catalogue}
@@ -17,12 +18,16 @@ use Rattle.catalogue.specs.declared.workers.Table.{Table}
 use Rattle.catalogue.specs.declared.workers.Worker.{Worker}
 use Rattle.catalogue.proofs.Picks.{pick-both}
 use Rattle.row.specs.Base.{clash}
-use Rattle.row.specs.World.{World, Spot, Rest, resting, move, Conf, steps}
+use Rattle.row.specs.Row.{Call}
+use Rattle.row.specs.World.{World, Spot, Rest, resting, move, Conf, steps, Began, close}
 use Rattle.row.specs.Course.{Fine6, act-fine6, act-both}
+use Rattle.promises.specs.Alone.{Ask}
+use Rattle.promises.specs.Histories.{Begun, answers}
 use Rattle.promises.proofs.Showing.Shows.{Sure, reply-of}
 use Rattle.promises.proofs.Steps.Follow.{follow}
 use Rattle.promises.proofs.Runs.Held.{Held, busy-is}
-use Rattle.promises.proofs.Runs.Done.{held-with, replied, Done, refused, in-table}
+use Rattle.promises.proofs.Runs.Telling.{begun-of, answered-of}
+use Rattle.promises.proofs.Runs.Done.{held-with, Tells, Done, refused, in-table}
 
 -- no vertex is handed back
 used-up : (X : Conf) → Fine6 X → (v : ℕ) → X .world .v .used ≤ move (X .world) (X .at v) .world .v .used
@@ -32,21 +37,31 @@ used-up X f v =
     by : (n : ℕ) {m : ℕ} → 2 ≤ n → ((x : ℕ) → x < n → x < m) → n ≤ m
     by (suc n) h s = s n (omega arith)
 
+-- the call that a reply answers
+abbrev replying : Begun → Option ℕ → Option (Call Ask ℕ)
+replying b none = none
+replying b (some r) = some (record { first = b .first; request = b .ask; reply = r })
+
+-- closed by the machine, it is the same call
+replying-is : (b : Began) (o : Option ℕ) → answered-of (close b o) ≡ replying (begun-of b) o
+replying-is b none = refl
+replying-is b (some r) = refl
+
 -- A decision that does not refuse is carried out: its write and record are left, and its reply is answered.
 record Performed (C : Catalogue) (t : Table) (n : ℕ) (w : Worker) (d : Decision) : Type 0 where
   leaves : perform C t n w d ≡ record { catalogue = commit C (write-of d); table = put t n (record-after w d); answer = answer-of d (record-after w d) }
-  replies : replied (answer-of d (record-after w d)) ≡ reply-of d
+  replies : (b : Begun) → answers b (answer-of d (record-after w d)) ≡ replying b (reply-of d)
   whole : answer-of d (record-after w d) ≡ answer.Refused refusal.Torn → ⊥
 
 performed : (C : Catalogue) (t : Table) (n : ℕ) (w : Worker) (d : Decision) → Sure d → Performed C t n w d
 performed C t n w decision.Torn s = absurd s
 performed C t n w decision.Code s = absurd s
-performed C t n w (decision.Going next write) s = record { leaves = refl; replies = refl; whole = λ e. clash (cc) }
-performed C t n w (decision.Begins next write v) s = record { leaves = refl; replies = refl; whole = λ e. clash (cc) }
-performed C t n w (decision.Keeps next) s = record { leaves = refl; replies = refl; whole = λ e. clash (cc) }
-performed C t n w (decision.Meets next y) s = record { leaves = refl; replies = refl; whole = λ e. clash (cc) }
-performed C t n w (decision.Takes next) s = record { leaves = refl; replies = refl; whole = λ e. clash (cc) }
-performed C t n w (decision.Reply number write) s = record { leaves = refl; replies = refl; whole = λ e. clash (cc) }
+performed C t n w (decision.Going next write) s = record { leaves = refl; replies = λ b. refl; whole = λ e. clash (cc) }
+performed C t n w (decision.Begins next write v) s = record { leaves = refl; replies = λ b. refl; whole = λ e. clash (cc) }
+performed C t n w (decision.Keeps next) s = record { leaves = refl; replies = λ b. refl; whole = λ e. clash (cc) }
+performed C t n w (decision.Meets next y) s = record { leaves = refl; replies = λ b. refl; whole = λ e. clash (cc) }
+performed C t n w (decision.Takes next) s = record { leaves = refl; replies = λ b. refl; whole = λ e. clash (cc) }
+performed C t n w (decision.Reply number write) s = record { leaves = refl; replies = λ b. refl; whole = λ e. clash (cc) }
 
 resting? : (s : Spot) → not (resting s) ≡ true → s ≡ Rest → ⊥
 resting? s b e = clash (cc)
@@ -55,8 +70,12 @@ module _ (workers : ℕ) (m : Moment) (X : Conf) (h : Held workers m X) (most : 
   abbrev done : After
   done = perform (m .catalogue) (m .table) v (worker-at (m .table) v) (decide (m .catalogue) (worker-at (m .table) v))
 
+  -- a step takes nothing up, and answers what its worker has begun
+  abbrev pub stepping : Tells
+  stepping = record { up = λ a w. none; call = λ a b. answers (b v) a; no-up = λ r w. refl; no-call = λ r b. refl }
+
   -- a busy worker of the table
-  carried : v < workers → busy (m .table) v ≡ true → Done workers X done
+  carried : v < workers → busy (m .table) v ≡ true → Done workers X stepping done
   carried low b =
       let W : World = X .world in
       let w : Worker = worker-at (m .table) v in
@@ -65,18 +84,23 @@ module _ (workers : ℕ) (m : Moment) (X : Conf) (h : Held workers m X) (most : 
       let f = follow (X .at v) awake (m .catalogue) W (h .shows) (h .fine .good) w (h .fine .ok v) p in
       let d = f .decision in
       let q = performed (m .catalogue) (m .table) v w d (f .sure) in
-      subst (Done workers X) (sym (ap (perform (m .catalogue) (m .table) v w) (f .decides) ∙ q .leaves))
+      subst (Done workers X stepping) (sym (ap (perform (m .catalogue) (m .table) v w) (f .decides) ∙ q .leaves))
       (record {
         choice = steps v;
         held =
             held-with workers m X h v low most (commit (m .catalogue) (write-of d)) (move W (X .at v) .world) (record-after w d) (move W (X .at v) .spot)
             (f .world) (act-fine6 X (h .fine) (steps v) (λ W e g. clash (cc))) (used-up X (h .fine) v) (f .spot);
-        same-reply = q .replies ∙ f .reply;
+        same = record {
+          taken = λ x. refl;
+          answered = λ c. replying-is (c v) (move W (X .at v) .answer) ∙ sym (q .replies (begun-of (c v)) ∙ ap (replying (begun-of (c v))) (f .reply));
+          honest = λ W e. clash (cc);
+        };
         whole = q .whole;
       })
 
-  pub steps-done : Done workers X (step (m .catalogue) (m .table) v)
+  pub steps-done : Done workers X stepping (step (m .catalogue) (m .table) v)
   unfolding step
   steps-done =
-      in-table workers m X h most v _
-      (λ low. pick-both (Done workers X) (busy (m .table) v) _ _ (λ b. carried low b) (λ b. refused workers m X h most refusal.Idle (λ z. clash (cc))))
+      in-table workers m X h most stepping v _
+      (λ low. pick-both (Done workers X stepping) (busy (m .table) v) _ _ (λ b. carried low b)
+      (λ b. refused workers m X h most stepping refusal.Idle (λ z. clash (cc))))

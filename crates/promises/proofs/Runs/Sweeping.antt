@@ -18,15 +18,16 @@ use Rattle.catalogue.specs.declared.answers.Made.the-variants as made
 use Rattle.catalogue.specs.declared.workers.Table.{Table}
 use Rattle.row.specs.Base.{same?, lt-or, clash}
 use Rattle.row.specs.World
-use Rattle.row.specs.World.{World, Spot, Rest, resting, all-rest, Untried, Conf, Choice, steps, sweeps, act}
+use Rattle.row.specs.World.{World, Spot, Rest, resting, all-rest, Untried, graph, Conf, Choice, steps, sweeps, act}
 use Rattle.row.specs.Graph.{WGood}
 use Rattle.row.specs.Course.{act-fine6, rest-untried}
 use Rattle.promises.proofs.Showing.Shows.{Shown}
 use Rattle.promises.proofs.Showing.Tests.{neither}
 use Rattle.promises.proofs.Lists.AtRest.{rest-sound}
-use Rattle.promises.proofs.Sweeps.Well.{Swept, sweeps-well}
+use Rattle.promises.proofs.Sweeps.Well.{Swept, sweeps-well, sweeps-same}
 use Rattle.promises.proofs.Runs.Held.{Held, busy-is}
-use Rattle.promises.proofs.Runs.Done.{heard, quiet}
+use Rattle.promises.proofs.Runs.Telling.{Same}
+use Rattle.promises.proofs.Runs.Done.{quiet, quiet-same}
 
 -- ---- everybody rests
 
@@ -72,7 +73,7 @@ module _ (workers : ℕ) (m : Moment) (X : Conf) (h : Held workers m X) (most : 
 pub record Done-sweep (workers : ℕ) (t : Table) (X : Conf) (a : After-sweep) : Type 0 where
   pub choice : Choice
   pub held : Held workers (record { catalogue = a .second; table = t }) (act X choice)
-  pub no-reply : none ≡ heard X choice
+  pub same : Same X choice (λ w. none) (λ b. none)
   pub whole : a .answer ≡ made.Refused refusal.Torn → ⊥
 
 module _ (workers : ℕ) (m : Moment) (X : Conf) (h : Held workers m X) (most : workers ≤ 8) where
@@ -80,12 +81,12 @@ module _ (workers : ℕ) (m : Moment) (X : Conf) (h : Held workers m X) (most : 
   refused r n = record {
     choice = steps 8;
     held = quiet workers m X h most;
-    no-reply = sym (ap (λ s. World.move (X .world) s .answer) (h .beyond 8 most));
+    same = quiet-same workers m X h most (λ w. none) (λ b. none) (λ w. refl) (λ b. refl);
     whole = λ e. n (cc);
   }
 
   module _ (e : any-busy (m .table) workers ≡ false) where
-    after : Swept (m .catalogue)
+    abbrev after : Swept (m .catalogue)
     after = sweeps-well (m .catalogue) (X .world) (h .shows) (h .fine .good) (untried workers m X h most e)
 
     accepted : all-rest 8 (X .at) ≡ true
@@ -97,18 +98,24 @@ module _ (workers : ℕ) (m : Moment) (X : Conf) (h : Held workers m X) (most : 
         rests : (s : Spot) → s ≡ Rest → Shown (X .world .v .used) (worker-at (m .table) w) s → Shown (after .world .v .used) (worker-at (m .table) w) Rest
         rests s q p = let z : Shown (X .world .v .used) (worker-at (m .table) w) Rest = rw q at p in record { asked = z .asked; stands = z .stands }
 
+    honest : (W : World) → sweeps (after .world) ≡ sweeps W → WGood W × Untried W × (graph W ≡ graph (X .world))
+    honest W q =
+        let z : after .world ≡ W = cc in
+        subst (λ (Y : World). WGood Y × Untried Y × (graph Y ≡ graph (X .world))) z
+        (after .good, after .untried, sweeps-same (m .catalogue) (X .world) (h .shows) (h .fine .good) (untried workers m X h most e))
+
     carried : Done-sweep workers (m .table) X (record { second = swept (m .catalogue); answer = made.Done })
     carried = record {
       choice = sweeps (after .world);
       held = rw accepted (record {
         shows = after .shows;
-        fine = rw accepted at (act-fine6 X (h .fine) (sweeps (after .world)) (λ W q g. let z : after .world ≡ W = cc in subst (λ (Y : World). WGood Y × Untried Y) z (after .good, after .untried)));
+        fine = rw accepted at (act-fine6 X (h .fine) (sweeps (after .world)) (λ W q g. let z = honest W q in (z .0, z .1)));
         counted = h .counted;
         eight = h .eight;
         shown = shown-at;
         beyond = h .beyond;
       });
-      no-reply = refl;
+      same = record { taken = λ w. refl; answered = λ b. refl; honest = honest };
       whole = λ q. clash (cc);
     }
 

@@ -1,12 +1,13 @@
 -- A choice to take up a request: where it is refused nothing changes, and else the machine's worker stands where the request begins. Assumes nothing.
 use Prim.Native.Nat.{ℕ, zero, suc, _≤_, _<_}
-use mathlib.Core.Bool.{Bool, true, false, not, _&&_}
+use mathlib.Core.Bool.{Bool, true, false, cond, not, _&&_}
+use mathlib.Core.Option.{none, some}
 use mathlib.Core.Path.{_≡_, refl, sym, _∙_}
 use mathlib.Core.Logic.{inl, inr}
 use native.Mathlib.Omega.{arith}
 use borrow.Author.Tests.{leb-true, lt-ltb}
 use lib.IntN.{ℤ}
-use lib.Dec.{T, leb}
+use lib.Dec.{T, eqb, leb}
 use lib.Signed.{ltZ}
 use Rattle.catalogue.specs.Tests.{pick, upd, eqZ}
 use Rattle.catalogue.specs.Numbers.{least, greatest, reserved}
@@ -21,13 +22,17 @@ use Rattle.catalogue.proofs.Picks.{pick-both}
 use Rattle.row.specs.Base.{clash}
 use Rattle.row.specs.LiveSet.{eqZ-yes, not-below}
 use Rattle.row.specs.Machine.{addV, remV, conV}
-use Rattle.row.specs.World.{World, Ask, vert, addE, remE, conE, resting, Conf, takes, act, starts, allowed, takable, fits-key}
+use Rattle.row.specs.World.{World, vert, addE, remE, conE, resting, Conf, takes, act, starts, allowed, takable, fits-key}
+use Rattle.row.specs.World
 use Rattle.row.specs.Course.{Fine6, act-fine6}
 use Rattle.promises.specs.Moments.{Key}
+use Rattle.promises.specs.Alone.{Ask, ask-of}
+use Rattle.promises.specs.Histories.{accepted}
 use Rattle.promises.proofs.Showing.Shows.{Shown}
 use Rattle.promises.proofs.Showing.Tests.{neither, second}
 use Rattle.promises.proofs.Runs.Held.{Held, busy-is}
-use Rattle.promises.proofs.Runs.Done.{held-with, Done, refused, in-table}
+use Rattle.promises.proofs.Runs.Telling.{asked-of, taken-of}
+use Rattle.promises.proofs.Runs.Done.{held-with, Tells, Done, refused, in-table}
 
 -- ---- keys
 
@@ -58,8 +63,9 @@ fitting k h r = rw (above, below)
 
 -- what the machine is asked for
 pub record Taken (W : World) (code : ℕ) (k l : ℤ) : Type 0 where
-  pub ask : Ask
+  pub ask : World.Ask
   pub fits : allowed ask ≡ true
+  pub is : asked-of ask ≡ ask-of (record { code = code; k = k; l = l })
   pub shown : Shown (W .v .used) (bare (first-place code k l (W .v .next 0))) (starts W ask)
 
 module _ (W : World) (k l : ℤ) (hk : Key k) (hl : Key l) where
@@ -73,12 +79,12 @@ module _ (W : World) (k l : ℤ) (hk : Key k) (hl : Key l) where
   pub taken : (code : ℕ) → code-known code ≡ true → key-refused code k l ≡ false → Taken W code k l
   unfolding key-refused first-place
   taken zero e r = clash (cc)
-  taken (suc zero) e r = record { ask = vert (addV k); fits = one-free r; shown = record { asked = r; stands = refl } }
-  taken (suc (suc zero)) e r = record { ask = vert (remV k); fits = one-free r; shown = record { asked = r; stands = refl } }
-  taken (suc (suc (suc zero))) e r = record { ask = vert (conV k); fits = one-free r; shown = record { asked = r; stands = refl } }
-  taken (suc (suc (suc (suc zero)))) e r = record { ask = addE k l; fits = two-free r; shown = record { asked = r; stands = refl } }
-  taken (suc (suc (suc (suc (suc zero))))) e r = record { ask = remE k l; fits = two-free r; shown = record { asked = r; stands = refl } }
-  taken (suc (suc (suc (suc (suc (suc zero)))))) e r = record { ask = conE k l; fits = two-free r; shown = record { asked = r; stands = refl } }
+  taken (suc zero) e r = record { ask = vert (addV k); fits = one-free r; is = refl; shown = record { asked = r; stands = refl } }
+  taken (suc (suc zero)) e r = record { ask = vert (remV k); fits = one-free r; is = refl; shown = record { asked = r; stands = refl } }
+  taken (suc (suc (suc zero))) e r = record { ask = vert (conV k); fits = one-free r; is = refl; shown = record { asked = r; stands = refl } }
+  taken (suc (suc (suc (suc zero)))) e r = record { ask = addE k l; fits = two-free r; is = refl; shown = record { asked = r; stands = refl } }
+  taken (suc (suc (suc (suc (suc zero))))) e r = record { ask = remE k l; fits = two-free r; is = refl; shown = record { asked = r; stands = refl } }
+  taken (suc (suc (suc (suc (suc (suc zero)))))) e r = record { ask = conE k l; fits = two-free r; is = refl; shown = record { asked = r; stands = refl } }
   taken (suc (suc (suc (suc (suc (suc (suc n))))))) e r =
       let code : ℕ = suc (suc (suc (suc (suc (suc (suc n)))))) in
       absurd (omega (arith, leb-true code 6 (second (leb 1 code) (leb code 6) e)))
@@ -93,16 +99,28 @@ module _ (workers : ℕ) (m : Moment) (X : Conf) (h : Held workers m X) (most : 
   abbrev going : After
   going = record { catalogue = m .catalogue; table = put (m .table) v first; answer = answer.Going 0 }
 
-  abbrev begins : Ask → Conf
+  abbrev begins : World.Ask → Conf
   begins q = record { world = X .world; at = upd (X .at) v (starts (X .world) q) }
 
+  -- what the request asks for is taken up for v where it is accepted; no call is answered
+  abbrev asked : Ask
+  asked = ask-of (record { code = code; k = k; l = l })
+
+  abbrev pub taking-up : Tells
+  taking-up = record {
+    up = λ a w. pick (eqb v w) (pick (accepted a) (some asked) none) none;
+    call = λ a b. none;
+    no-up = λ r w. pick-both (λ o. o ≡ none) (eqb v w) _ _ (λ e. refl) (λ e. refl);
+    no-call = λ r b. refl;
+  }
+
   -- the machine takes up what it may
-  taking : (q : Ask) → takable (X .at) v q ≡ true → (Fine6 (begins q) → Held workers (record { catalogue = m .catalogue; table = going .table }) (begins q))
+  taking : (q : World.Ask) → takable (X .at) v q ≡ true → (Fine6 (begins q) → Held workers (record { catalogue = m .catalogue; table = going .table }) (begins q))
       → Held workers (record { catalogue = m .catalogue; table = going .table }) (act X (takes v q))
   taking q free f = rw free (f (rw free at (act-fine6 X (h .fine) (takes v q) (λ W e g. clash (cc)))))
 
   -- by an idle worker of the table
-  begun : v < workers → busy (m .table) v ≡ false → code-known code ≡ true → key-refused code k l ≡ false → Done workers X going
+  begun : v < workers → busy (m .table) v ≡ false → code-known code ≡ true → key-refused code k l ≡ false → Done workers X taking-up going
   begun low b e r =
       let W : World = X .world in
       let w : Worker = worker-at (m .table) v in
@@ -112,25 +130,33 @@ module _ (workers : ℕ) (m : Moment) (X : Conf) (h : Held workers m X) (most : 
       record {
         choice = takes v (z .ask);
         held = taking (z .ask) free (λ f. held-with workers m X h v low most (m .catalogue) W first (starts W (z .ask)) (h .shows) f (omega arith) (z .shown));
-        same-reply = refl;
+        same = record {
+          taken = λ w. opens-same (eqb v w) (takable (X .at) v (z .ask)) free (z .ask) (z .is);
+          answered = λ b. refl;
+          honest = λ W q. clash (cc);
+        };
         whole = λ q. clash (cc);
       }
     where
+      opens-same : (a t : Bool) → t ≡ true → (q : World.Ask) → asked-of q ≡ asked → taken-of (cond (a && t) (some q) none) ≡ pick a (some asked) none
+      opens-same true t e q i = rw (e, i)
+      opens-same false t e q i = refl
+
       idle : (b : Bool) → not b ≡ false → b ≡ true
       idle true q = refl
       idle false q = clash (cc)
 
   -- the head's link is whole, so the request begins where the head leads
-  starting : v < workers → busy (m .table) v ≡ false → Done workers X (start-up (m .catalogue) (m .table) v code k l)
+  starting : v < workers → busy (m .table) v ≡ false → Done workers X taking-up (start-up (m .catalogue) (m .table) v code k l)
   unfolding start-up
   starting low b =
       rw (h .shows .vlinks 0 (omega (arith, h .shows .vertices)) (λ z. clash (cc)))
-      (pick-both (Done workers X) (code-known code) _ _
-      (λ e. pick-both (Done workers X) (key-refused code k l) _ _ (λ r. refused workers m X h most refusal.Key (λ z. clash (cc))) (λ r. begun low b e r))
-      (λ e. refused workers m X h most refusal.Code (λ z. clash (cc))))
+      (pick-both (Done workers X taking-up) (code-known code) _ _
+      (λ e. pick-both (Done workers X taking-up) (key-refused code k l) _ _ (λ r. refused workers m X h most taking-up refusal.Key (λ z. clash (cc))) (λ r. begun low b e r))
+      (λ e. refused workers m X h most taking-up refusal.Code (λ z. clash (cc))))
 
-  pub takes-done : Done workers X (take-up (m .catalogue) (m .table) v code k l)
+  pub takes-done : Done workers X taking-up (take-up (m .catalogue) (m .table) v code k l)
   unfolding take-up
   takes-done =
-      in-table workers m X h most v _
-      (λ low. pick-both (Done workers X) (busy (m .table) v) _ _ (λ b. refused workers m X h most refusal.Busy (λ z. clash (cc))) (λ b. starting low b))
+      in-table workers m X h most taking-up v _
+      (λ low. pick-both (Done workers X taking-up) (busy (m .table) v) _ _ (λ b. refused workers m X h most taking-up refusal.Busy (λ z. clash (cc))) (λ b. starting low b))

@@ -14,6 +14,11 @@ module _ {A : Type 0} where
   pick-or false true x y = refl
   pick-or false false x y = refl
 
+  pub pick-and : (a b : Bool) (x y : A) → pick a (pick b x y) y ≡ cond (a && b) x y
+  pick-and true true x y = refl
+  pick-and true false x y = refl
+  pick-and false b x y = refl
+
   pub pick-unless : (a b : Bool) (x y : A) → pick a x (cond b y x) ≡ cond (not a && b) y x
   pick-unless true b x y = refl
   pick-unless false b x y = refl
