@@ -1,0 +1,22 @@
+-- Laws of the reader.
+pub mod Tools
+pub mod NumberLaws
+pub mod KeyLaws
+pub mod LineLaws
+pub mod ItemLaws
+pub mod KeyedLaws
+pub mod RequestLaws
+pub mod HeaderLaws
+pub mod CountLaws
+pub mod HeadingLaws
+pub mod ShareLaws
+pub mod ScheduledLaws
+pub mod TurnLaws
+pub mod ScheduleLaws
+pub mod CheckLaws
+pub mod Cursors
+pub mod ReadLaws
+pub mod StartLaws
+pub mod TurnReads
+pub mod HeadedLaws
+pub mod WholeLaws

@@ -1,0 +1,120 @@
+-- A schedule of some turns goes by its words; one of no turns is an empty line, at whose position the line's end stands. Assumes nothing.
+use Prim.Native.Nat.{ℕ, suc, _+_, _≤_, _<_}
+use mathlib.Core.List.{List, [], _∷_}
+use mathlib.Core.Option.{Option, none, some}
+use mathlib.Core.Path.{_≡_, refl, sym, ap, _∙_}
+use native.Mathlib.Omega.{arith}
+use lib.ListN.{length, getD, drop, drop-of-length-le}
+use lib.Seq.{drop-cons}
+use borrow.Author.Tests.{eq-eqb, ne-eqb, lt-ltb, le-ltb}
+use Rattle.catalogue.specs.Script.{next-line, split, read-schedule}
+use Rattle.script.specs.Words.{number-at}
+use Rattle.script.specs.Lines.{line-in, line-at, words-at}
+use Rattle.script.specs.Turns.{as-after, schedule-at, scheduled, turns-at, turn-before, turn-last, turn-at}
+use Rattle.script.specs.declared.numbers.Number.{Number}
+use Rattle.script.specs.declared.numbers.Number.the-variants as number
+use Rattle.script.specs.declared.turns.After.{After}
+use Rattle.script.specs.declared.turns.After.the-variants.{Bad, At}
+use Rattle.script.proofs.LineLaws.{words-none, line-alike, before}
+use Rattle.script.proofs.ScheduledLaws.{scheduled-none, scheduled-never, scheduled-end}
+
+-- ---- one turn
+
+module _ (workers : ℕ) (r s : Number) (e : r ≡ s) where
+  pub before-bad : r ≡ number.Bad → Bad ≡ turn-before workers s
+  before-bad q = rw (sym e ∙ q)
+
+  pub last-bad : r ≡ number.Bad → Bad ≡ turn-last workers s
+  last-bad q = rw (sym e ∙ q)
+
+  module _ (w next : ℕ) where
+    pub before-on : r ≡ number.More w next → w < workers → At next ≡ turn-before workers s
+    before-on q h = rw (sym e ∙ q, lt-ltb w workers h)
+
+    pub before-above : r ≡ number.More w next → workers ≤ w → Bad ≡ turn-before workers s
+    before-above q h = rw (sym e ∙ q, le-ltb w workers h)
+
+    pub before-last : r ≡ number.Last w next → Bad ≡ turn-before workers s
+    before-last q = rw (sym e ∙ q)
+
+    pub last-on : r ≡ number.Last w next → w < workers → At next ≡ turn-last workers s
+    last-on q h = rw (sym e ∙ q, lt-ltb w workers h)
+
+    pub last-above : r ≡ number.Last w next → workers ≤ w → Bad ≡ turn-last workers s
+    last-above q h = rw (sym e ∙ q, le-ltb w workers h)
+
+    pub last-more : r ≡ number.More w next → Bad ≡ turn-last workers s
+    last-more q = rw (sym e ∙ q)
+
+module _ (text : List ℕ) (at : ℕ) (r : Number) (e : r ≡ number-at text at) where
+  pub turn-bad : r ≡ number.Bad → record { worker = 0; next = 0 } ≡ turn-at text at
+  unfolding turn-at
+  turn-bad q = rw (sym e ∙ q)
+
+  pub turn-more : (w next : ℕ) → r ≡ number.More w next → record { worker = w; next = next } ≡ turn-at text at
+  unfolding turn-at
+  turn-more w next q = rw (sym e ∙ q)
+
+  pub turn-last-of : (w next : ℕ) → r ≡ number.Last w next → record { worker = w; next = next } ≡ turn-at text at
+  unfolding turn-at
+  turn-last-of w next q = rw (sym e ∙ q)
+
+-- ---- the line
+
+words-or-none : (workers turns : ℕ) → 1 ≤ turns → (l : List ℕ) → read-schedule workers turns l ≡ scheduled workers turns (split l)
+unfolding split
+words-or-none workers turns h [] = scheduled-end workers turns ∙ rw (ne-eqb 0 turns (omega arith)) (sym (scheduled-none workers turns [] [] refl))
+words-or-none workers turns h (b ∷ bs) = refl
+
+module _ (workers turns : ℕ) (text : List ℕ) (at : ℕ) where
+  pub schedule-by-words : 1 ≤ turns → line-at (read-schedule workers turns) text at ≡ words-at (scheduled workers turns) text at
+  schedule-by-words h = line-alike (read-schedule workers turns) (λ l. scheduled workers turns (split l)) (words-or-none workers turns h) at (next-line (drop at text))
+
+  pub schedule-turns : (r : After) → r ≡ turns-at workers turns text at → 1 ≤ turns → r ≡ schedule-at workers turns text at
+  unfolding schedule-at turns-at
+  schedule-turns r e h = e ∙ ap as-after (sym (schedule-by-words h))
+
+  pub schedule-none : length text ≤ at → Bad ≡ schedule-at workers turns text at
+  unfolding schedule-at next-line
+  schedule-none h = rw (drop-of-length-le text {i = at} h)
+
+  module _ (h : at < length text) (z : turns < 1) where
+    pub schedule-end : getD text at 0 ≡ 10 → At (at + 1) ≡ schedule-at workers turns text at
+    unfolding schedule-at next-line
+    schedule-end e =
+        let t : turns ≡ 0 = omega arith in
+        rw (t, drop-cons text at 0 h, next-line, eq-eqb (getD text at 0) 10 e, scheduled-end workers 0)
+
+    -- a line that is not empty goes by its words
+    alike : (getD text at 0 ≡ 10 → ⊥) → line-at (read-schedule workers 0) text at ≡ words-at (scheduled workers 0) text at
+    unfolding next-line
+    alike n = rw (drop-cons text at 0 h, next-line, ne-eqb (getD text at 0) 10 n) (through (next-line (drop (suc at) text)))
+      where
+        through : (o : Option (List ℕ × List ℕ))
+            → line-in (read-schedule workers 0) at (before (getD text at 0) o) ≡ line-in (λ l. scheduled workers 0 (split l)) at (before (getD text at 0) o)
+        through none = refl
+        through (some r) = refl
+
+    pub schedule-more : (getD text at 0 ≡ 10 → ⊥) → Bad ≡ schedule-at workers turns text at
+    unfolding schedule-at
+    schedule-more n =
+        let t : turns ≡ 0 = omega arith in
+        rw (t, alike n, words-none (scheduled workers 0) text at (scheduled-never workers))
+
+pub ruleset schedule-cases = (
+  before-bad,
+  before-on,
+  before-above,
+  before-last,
+  last-bad,
+  last-on,
+  last-above,
+  last-more,
+  turn-bad,
+  turn-more,
+  turn-last-of,
+  schedule-turns,
+  schedule-none,
+  schedule-end,
+  schedule-more,
+)
