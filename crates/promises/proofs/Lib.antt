@@ -6,3 +6,4 @@ pub mod Lists
 pub mod Sweeps
 pub mod Runs
 pub mod Rows
+pub mod Bounds

@@ -4,4 +4,6 @@ pub mod Graphs
 pub mod Alone
 pub mod Histories
 pub mod Promises
+pub mod Bounds
 pub mod Examples
+pub mod BoundExamples

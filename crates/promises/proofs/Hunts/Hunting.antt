@@ -2,26 +2,22 @@
 use Prim.Native.Nat.{ℕ, _+_, _≤_, _<_}
 use mathlib.Core.Bool.{true, false}
 use mathlib.Core.List.{List, [], _∷_, _++_}
-use mathlib.Core.Logic.{inl, inr}
-use mathlib.Core.Path.{_≡_, refl, ap, _∙_}
+use mathlib.Core.Logic.{inl}
+use mathlib.Core.Path.{_≡_, refl, sym, ap, _∙_}
 use native.Mathlib.Omega.{arith}
-use lib.ListN.{length, length-set}
+use lib.ListN.{length, take, length-set}
 use Rattle.catalogue.specs.Tests.{upd}
 use Rattle.catalogue.specs.Workers.{has, with-met, idle, begun, kept, queued, taken, front-of}
 use Rattle.catalogue.specs.declared.workers.Place.{Place}
 use Rattle.catalogue.specs.declared.workers.Worker.{Worker}
 use Rattle.workers.proofs.MetLaws.{none-met}
 use Rattle.row.specs.World.{Opened, closed, Hunt, hunt-from, stands-at, meets, took}
-use Rattle.row.specs.Deeds.{Mem}
+use Rattle.promises.specs.Bounds.{total}
+use Rattle.promises.proofs.Showing.Weighing.{weigh-none, weigh-one-more, total-last}
 use Rattle.promises.proofs.Showing.Shows.{Series, Open, Hunted}
 use Rattle.promises.proofs.Hunts.MetSet.{none-counted, with-met-words, with-met-upd, met-count-up, met-count-room}
-use Rattle.promises.proofs.Hunts.Queue.{queue-put, queue-empty, queue-some, queue-first, queue-rest}
-
--- who is in a list with one more at its end is in the list, or is that one
-in-longer : (P : ℕ → Type 0) (xs : List ℕ) (y : ℕ) → ((x : ℕ) → Mem x xs → P x) → P y → (x : ℕ) → Mem x (xs ++ (y ∷ [])) → P x
-in-longer P [] y f p x (inl e) = rw e p
-in-longer P (z ∷ zs) y f p x (inl e) = f x (inl e)
-in-longer P (z ∷ zs) y f p x (inr m) = in-longer P zs y (λ a n. f a (inr n)) p x m
+use Rattle.promises.proofs.Hunts.Queue.{queue-put, queue-empty, queue-some, queue-first, queue-rest, taken-stay, queue-took}
+use Rattle.promises.proofs.Hunts.Searching.{nobody-searched, searched-meets, searched-takes}
 
 module _ (used : ℕ) (w : Worker) (h : Hunt) (r : Hunted used w h) where
   pub hunted-keeps : (place : Place) (o : Opened) → Open used o → Hunted used (kept w place) (stands-at h o)
@@ -33,7 +29,8 @@ module _ (used : ℕ) (w : Worker) (h : Hunt) (r : Hunted used w h) where
     met-same = r .met-same;
     counted = r .counted;
     queue-same = r .queue-same;
-    queue-series = r .queue-series;
+    searched = r .searched;
+    weighed = r .weighed;
     open-series = stand;
   }
 
@@ -63,7 +60,8 @@ module _ (used : ℕ) (w : Worker) (h : Hunt) (r : Hunted used w h) where
       queue-same =
           queue-put (w .queue) (w .front) (w .back) (r .ordered) y (rw (r .queue-length) room-in-queue)
           ∙ ap (λ (l : List ℕ). l ++ (y ∷ [])) (r .queue-same);
-      queue-series = in-longer (Series used) (h .todo) y (r .queue-series) in-series;
+      searched = searched-meets (r .searched) y in-series unmet;
+      weighed = λ f. ap (total f) (taken-stay (w .queue) (w .front) (w .back) (r .ordered) y) ∙ r .weighed f;
       open-series = stand;
     }
 
@@ -81,10 +79,10 @@ module _ (used : ℕ) (w : Worker) (h : Hunt) (r : Hunted used w h) where
     front-is = queue-first (w .queue) (w .front) (w .back) (r .ordered) fits-length x xs (r .queue-same ∙ front)
 
     pub front-series : Series used x
-    front-series = r .queue-series x (rw front (inl refl))
+    front-series = let d = r .searched in d .met-series x (d .todo-met x (rw front (inl refl)))
 
-    pub hunted-takes : (place : Place) (o : Opened) → Open used o → Hunted used (taken w place) (took h x xs o)
-    hunted-takes place o stand = record {
+    pub hunted-takes : used ≤ 256 → (place : Place) (o : Opened) → Open used o → Hunted used (taken w place) (took h x xs o)
+    hunted-takes in-pool place o stand = record {
       met-words = r .met-words;
       queue-length = r .queue-length;
       ordered = omega (arith, some-left);
@@ -92,12 +90,17 @@ module _ (used : ℕ) (w : Worker) (h : Hunt) (r : Hunted used w h) where
       met-same = r .met-same;
       counted = r .counted;
       queue-same = queue-rest (w .queue) (w .front) (w .back) (r .ordered) fits-length x xs (r .queue-same ∙ front);
-      queue-series = λ z m. r .queue-series z (rw front (inr m));
+      searched = searched-takes (r .searched) x xs front;
+      weighed = λ f.
+          ap (total f) (queue-took (w .queue) (w .front) (w .back) (r .ordered) fits-length x xs (r .queue-same ∙ front))
+          ∙ (total-last f (take (w .front) (w .queue)) x
+          ∙ (ap (λ (n : ℕ). n + f x) (r .weighed f) ∙ sym (weigh-one-more f (h .taken) x (r .searched .todo-new x (rw front (inl refl))) 256 (omega (arith, front-series)))));
       open-series = stand;
     }
 
 -- A trial begins as one that had met nobody and now meets v.
 pub hunted-begun : (used : ℕ) → used ≤ 256 → (place : Place) (v : ℕ) → Series used v → Hunted used (begun place v) (hunt-from v)
+unfolding total
 hunted-begun used few place v o = hunted-meets used idle unmet nobody few v o refl place closed tt
   where
     unmet : Hunt
@@ -112,6 +115,7 @@ hunted-begun used few place v o = hunted-meets used idle unmet nobody few v o re
       met-same = λ x h. none-met x;
       counted = none-counted;
       queue-same = refl;
-      queue-series = λ x m. absurd m;
+      searched = nobody-searched used;
+      weighed = λ f. sym (weigh-none f 256);
       open-series = tt;
     }

@@ -2,11 +2,11 @@
 use Prim.Native.Nat.{ℕ, suc, _+_, _≤_, _<_}
 use mathlib.Core.List.{List, [], _∷_, _++_}
 use mathlib.Core.Logic.{inl, inr}
-use mathlib.Core.Path.{_≡_, sym, _∙_}
+use mathlib.Core.Path.{_≡_, refl, sym, _∙_}
 use native.Mathlib.Omega.{arith}
 use native.Mathlib.Numerals.{add-one}
 use lib.ListN.{length, getD, set, take, drop}
-use lib.Seq.{length-take-le, take-suc-set, drop-append-le, slice-empty, slice-cons}
+use lib.Seq.{length-take-le, take-suc, take-suc-set, take-set-le, drop-append-le, slice-empty, slice-cons}
 use Rattle.row.specs.Base.{same?}
 use Rattle.catalogue.proofs.Picks.{clash}
 
@@ -15,6 +15,10 @@ module _ (queue : List ℕ) (front back : ℕ) (ordered : front ≤ back) where
   queue-put y h =
       rw (add-one back, take-suc-set queue back y h)
       (drop-append-le front (take back queue) (y ∷ []) (rw (length-take-le back queue (omega arith)) ordered))
+
+  -- who stands before the front stays there
+  pub taken-stay : (y : ℕ) → take front (set queue back y) ≡ take front queue
+  taken-stay y = take-set-le front queue back y ordered
 
   module _ (fits : back ≤ length queue) where
     pub queue-empty : drop front (take back queue) ≡ [] → front ≡ back
@@ -33,3 +37,7 @@ module _ (queue : List ℕ) (front back : ℕ) (ordered : front ≤ back) where
 
       pub queue-rest : drop (front + 1) (take back queue) ≡ xs
       queue-rest = rw (add-one front) (cc (parts))
+
+      -- and is taken
+      pub queue-took : take (front + 1) queue ≡ take front queue ++ (x ∷ [])
+      queue-took = rw (add-one front, take-suc queue front 0 (omega (arith, queue-some)), queue-first) refl

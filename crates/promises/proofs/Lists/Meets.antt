@@ -8,7 +8,7 @@ use lib.Dec.{eqb}
 use lib.Signed.{_<ℤ_, <ℤ-irrefl}
 use Rattle.catalogue.specs.Tests.{pick}
 use Rattle.catalogue.specs.Catalogue.{Catalogue}
-use Rattle.catalogue.specs.Live.{next-vertex, first-edge, next-edge, vertices, edges-of, unmarked, is-live, live-vertices, live-edges-of}
+use Rattle.catalogue.specs.Live.{walk, next-vertex, first-edge, next-edge, vertices, edges-of, unmarked, is-live, live-vertices, live-edges-of}
 use Rattle.row.specs.Base.{clash, <ℤ-trans}
 use Rattle.row.specs.Links.{Run, stop, go, run-tail, run-fold}
 use Rattle.row.specs.LiveSet.{and-true, not-true}
@@ -18,7 +18,7 @@ use Rattle.row.specs.World.{World, is-added}
 use Rattle.row.specs.Graph.{WGood, added-is, added-plain}
 use Rattle.promises.proofs.Showing.Shows.{Shows, Series, vertex-tag-of, edge-tag-of}
 use Rattle.promises.proofs.Lists.Members.{Among, Distinct, kept, from-kept}
-use Rattle.promises.proofs.Lists.Walked.{On, walk-on, walk-distinct, walk-meets}
+use Rattle.promises.proofs.Lists.Walked.{On, walk-on, walk-distinct, walk-meets, walk-same}
 
 -- an added edge in the list of u, with an unmarked target
 pub record LiveIn (W : World) (u e : ℕ) : Type 0 where
@@ -108,6 +108,12 @@ module _ (C : Catalogue) (W : World) (s : Shows C W) (g : WGood W) where
 
     start-e : Own (first-edge C u)
     start-e = rw first-is (g .esound .sorted u .follows head tt (λ q. clash (cc)) .inside)
+
+    -- the walk is that of the world's links
+    pub edges-walk : edges-of C u ≡ walk (W .e .next) 0 2048 (W .e .first u)
+    edges-walk =
+        walk-same (next-edge C) (W .e .next) 0 Own (λ e m d. (rises-e e m d .0, next-e e m d)) 2048 (first-edge C u) start-e
+        ∙ ap (walk (W .e .next) 0 2048) first-is
 
     pub listed-in : (e : ℕ) → Among e (edges-of C u) → InList (W .e) u e
     listed-in e i =

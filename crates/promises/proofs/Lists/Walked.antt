@@ -3,7 +3,7 @@ use Prim.Native.Nat.{ℕ, zero, suc, _<_}
 use mathlib.Core.Bool.{Bool, true, false}
 use mathlib.Core.List.{List, [], _∷_}
 use mathlib.Core.Logic.{_⊎_, inl, inr}
-use mathlib.Core.Path.{_≡_, refl, sym, _∙_}
+use mathlib.Core.Path.{_≡_, refl, sym, ap, _∙_}
 use native.Mathlib.Omega.{arith}
 use borrow.Author.Tests.{eq-eqb, ne-eqb}
 use lib.Dec.{eqb}
@@ -16,14 +16,14 @@ use Rattle.row.specs.Links.{Run, stop, go}
 use Rattle.promises.proofs.Lists.Members.{Among, Distinct, pigeonhole}
 
 module _ (next : ℕ → ℕ) (end : ℕ) where
-  at-end : (n x : ℕ) → x ≡ end → walk next end (suc n) x ≡ []
+  pub at-end : (n x : ℕ) → x ≡ end → walk next end (suc n) x ≡ []
   unfolding walk
   at-end n x e = by (eqb x end) (eq-eqb x end e)
     where
       by : (t : Bool) → t ≡ true → _≡_ {A = List ℕ} (elim t [ true ↦ [] | false ↦ x ∷ walk next end n (next x) ]) []
       by t e = rw e refl
 
-  further : (n x : ℕ) → (x ≡ end → ⊥) → walk next end (suc n) x ≡ x ∷ walk next end n (next x)
+  pub further : (n x : ℕ) → (x ≡ end → ⊥) → walk next end (suc n) x ≡ x ∷ walk next end n (next x)
   unfolding walk
   further n x d = by (eqb x end) (ne-eqb x end d)
     where
@@ -37,6 +37,17 @@ module _ (next : ℕ → ℕ) (end : ℕ) where
   all-met (suc n) x y h (go k r) d =
       let l : suc (length (walk next end n (next x))) < suc n = rw (further n x k) at h in
       rw (further n x k) (inr (all-met n (next x) y (omega arith) r d))
+
+  -- and more fuel changes nothing
+  pub spare : (n x : ℕ) → length (walk next end n x) < n → walk next end (suc n) x ≡ walk next end n x
+  spare zero x h = absurd (omega arith)
+  spare (suc n) x h =
+      elim (same? x end) [
+        | inl e ↦ at-end (suc n) x e ∙ sym (at-end n x e)
+        | inr d ↦
+            let l : suc (length (walk next end n (next x))) < suc n = rw (further n x d) at h in
+            further (suc n) x d ∙ (ap (λ (l : List ℕ). x ∷ l) (spare n (next x) (omega arith)) ∙ sym (further n x d))
+      ]
 
   module _ (key : ℕ → ℤ) (mine : ℕ → Type 0) (rises : (x : ℕ) → mine x → (x ≡ end → ⊥) → mine (next x) × (key x <ℤ key (next x))) where
     pub record On (from x : ℕ) : Type 0 where
@@ -71,9 +82,9 @@ module _ (next : ℕ → ℕ) (end : ℕ) where
         new : mine (next x) × (key x <ℤ key (next x)) → On (next x) x → ⊥
         new f o = <ℤ-irrefl {a = key x} (elim (o .above) [ inl q ↦ rw q at (f .1) | inr l ↦ <ℤ-trans (f .1) l ])
 
-    -- with a fuel above every number of the list nothing is missed
-    pub walk-meets : (n : ℕ) → ((x : ℕ) → mine x → x < n) → end < n → (x y : ℕ) → mine x → Run next end y x → (y ≡ end → ⊥) → Among y (walk next end n x)
-    walk-meets n b e x y m r d = all-met n x y (pigeonhole n (end ∷ walk next end n x) (away, walk-distinct n x m) below) r d
+    -- a fuel above every number of the list is not used up
+    pub walk-spare : (n : ℕ) → ((x : ℕ) → mine x → x < n) → end < n → (x : ℕ) → mine x → length (walk next end n x) < n
+    walk-spare n b e x m = pigeonhole n (end ∷ walk next end n x) (away, walk-distinct n x m) below
       where
         away : Among end (walk next end n x) → ⊥
         away i = walk-on n x end m i .inner refl
@@ -81,3 +92,22 @@ module _ (next : ℕ → ℕ) (end : ℕ) where
         below : (z : ℕ) → Among z (end ∷ walk next end n x) → z < n
         below z (inl q) = rw q e
         below z (inr i) = b z (walk-on n x z m i .inside)
+
+    -- so nothing is missed
+    pub walk-meets : (n : ℕ) → ((x : ℕ) → mine x → x < n) → end < n → (x y : ℕ) → mine x → Run next end y x → (y ≡ end → ⊥) → Among y (walk next end n x)
+    walk-meets n b e x y m r d = all-met n x y (walk-spare n b e x m) r d
+
+-- another next that is the same on the list walks the same
+pub walk-same : (next other : ℕ → ℕ) (end : ℕ) (mine : ℕ → Type 0)
+    → ((x : ℕ) → mine x → (x ≡ end → ⊥) → mine (next x) × (next x ≡ other x)) → (n x : ℕ) → mine x → walk next end n x ≡ walk other end n x
+unfolding walk
+walk-same next other end mine same zero x m = refl
+walk-same next other end mine same (suc n) x m =
+    elim (same? x end) [
+      | inl e ↦ at-end next end n x e ∙ sym (at-end other end n x e)
+      | inr d ↦
+          let z = same x m d in
+          further next end n x d
+          ∙ (ap (λ (l : List ℕ). x ∷ l) (walk-same next other end mine same n (next x) (z .0) ∙ ap (walk other end n) (z .1))
+          ∙ sym (further other end n x d))
+    ]

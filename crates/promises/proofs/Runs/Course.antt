@@ -15,7 +15,7 @@ use Rattle.promises.proofs.Runs.Next.{next}
 use Rattle.promises.proofs.Runs.Schedule.{run}
 
 -- the moment after all choices
-held-at : (workers : ℕ) (choices : List Choice) → Given workers choices → (Y : Conf) × Held workers (at workers choices) Y
+pub held-at : (workers : ℕ) (choices : List Choice) → Given workers choices → (Y : Conf) × Held workers (at workers choices) Y
 held-at workers choices g = let r = run workers choices g in (conf (r .schedule) (length choices), rw (take-length choices) at (r .held (length choices)))
 
 pub no-loop : NoLoop

@@ -58,7 +58,14 @@ module _ (used used′ : ℕ) (h : used ≤ used′) where
           met-same = r .met-same;
           counted = r .counted;
           queue-same = r .queue-same;
-          queue-series = λ x m. series-up (r .queue-series x m);
+          searched = let d = r .searched in record {
+            met-series = λ x m. series-up (d .met-series x m);
+            taken-met = d .taken-met;
+            todo-met = d .todo-met;
+            todo-new = d .todo-new;
+            todo-once = d .todo-once;
+          };
+          weighed = r .weighed;
           open-series = open-up (z .stand) (r .open-series);
         },
       )

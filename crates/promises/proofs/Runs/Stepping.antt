@@ -11,6 +11,7 @@ use Rattle.catalogue.specs.Workers.{worker-at, put, busy}
 use Rattle.catalogue.specs.Writes.{commit}
 use Rattle.catalogue.specs.Steps.Decide.{decide, record-after, write-of, answer-of}
 use Rattle.catalogue.specs.declared.answers.Refusal.the-variants as refusal
+use Rattle.catalogue.specs.declared.answers.Answer.{Answer}
 use Rattle.catalogue.specs.declared.answers.Answer.the-variants as answer
 use Rattle.catalogue.specs.declared.steps.Decision.{Decision}
 use Rattle.catalogue.specs.declared.steps.Decision.the-variants as decision
@@ -30,14 +31,19 @@ use Rattle.promises.proofs.Runs.Telling.{begun-of, answered-of}
 use Rattle.promises.proofs.Runs.Done.{held-with, Tells, Done, refused, in-table}
 
 -- no vertex is handed back
-used-up : (X : Conf) → Fine6 X → (v : ℕ) → X .world .v .used ≤ move (X .world) (X .at v) .world .v .used
+pub used-up : (X : Conf) → Fine6 X → (v : ℕ) → X .world .v .used ≤ move (X .world) (X .at v) .world .v .used
 used-up X f v =
     by (X .world .v .used) (f .good .good .sound .some) (act-both X f (steps v) (λ W z. clash (cc)) .vm .stays)
   where
     by : (n : ℕ) {m : ℕ} → 2 ≤ n → ((x : ℕ) → x < n → x < m) → n ≤ m
     by (suc n) h s = s n (omega arith)
 
--- the call that a reply answers
+-- what an answer replies, and the call that it answers
+abbrev pub replied : Answer → Option ℕ
+replied (answer.Going met) = none
+replied (answer.Reply n) = some n
+replied (answer.Refused r) = none
+
 abbrev replying : Begun → Option ℕ → Option (Call Ask ℕ)
 replying b none = none
 replying b (some r) = some (record { first = b .first; request = b .ask; reply = r })
@@ -47,23 +53,28 @@ replying-is : (b : Began) (o : Option ℕ) → answered-of (close b o) ≡ reply
 replying-is b none = refl
 replying-is b (some r) = refl
 
--- A decision that does not refuse is carried out: its write and record are left, and its reply is answered.
-record Performed (C : Catalogue) (t : Table) (n : ℕ) (w : Worker) (d : Decision) : Type 0 where
-  leaves : perform C t n w d ≡ record { catalogue = commit C (write-of d); table = put t n (record-after w d); answer = answer-of d (record-after w d) }
-  replies : (b : Begun) → answers b (answer-of d (record-after w d)) ≡ replying b (reply-of d)
-  whole : answer-of d (record-after w d) ≡ answer.Refused refusal.Torn → ⊥
+answers-is : (b : Begun) (a : Answer) → answers b a ≡ replying b (replied a)
+answers-is b (answer.Going met) = refl
+answers-is b (answer.Reply n) = refl
+answers-is b (answer.Refused r) = refl
 
-performed : (C : Catalogue) (t : Table) (n : ℕ) (w : Worker) (d : Decision) → Sure d → Performed C t n w d
+-- A decision that does not refuse is carried out: its write and record are left, and its reply is answered.
+pub record Performed (C : Catalogue) (t : Table) (n : ℕ) (w : Worker) (d : Decision) : Type 0 where
+  pub leaves : perform C t n w d ≡ record { catalogue = commit C (write-of d); table = put t n (record-after w d); answer = answer-of d (record-after w d) }
+  pub replies : replied (answer-of d (record-after w d)) ≡ reply-of d
+  pub whole : answer-of d (record-after w d) ≡ answer.Refused refusal.Torn → ⊥
+
+pub performed : (C : Catalogue) (t : Table) (n : ℕ) (w : Worker) (d : Decision) → Sure d → Performed C t n w d
 performed C t n w decision.Torn s = absurd s
 performed C t n w decision.Code s = absurd s
-performed C t n w (decision.Going next write) s = record { leaves = refl; replies = λ b. refl; whole = λ e. clash (cc) }
-performed C t n w (decision.Begins next write v) s = record { leaves = refl; replies = λ b. refl; whole = λ e. clash (cc) }
-performed C t n w (decision.Keeps next) s = record { leaves = refl; replies = λ b. refl; whole = λ e. clash (cc) }
-performed C t n w (decision.Meets next y) s = record { leaves = refl; replies = λ b. refl; whole = λ e. clash (cc) }
-performed C t n w (decision.Takes next) s = record { leaves = refl; replies = λ b. refl; whole = λ e. clash (cc) }
-performed C t n w (decision.Reply number write) s = record { leaves = refl; replies = λ b. refl; whole = λ e. clash (cc) }
+performed C t n w (decision.Going next write) s = record { leaves = refl; replies = refl; whole = λ e. clash (cc) }
+performed C t n w (decision.Begins next write v) s = record { leaves = refl; replies = refl; whole = λ e. clash (cc) }
+performed C t n w (decision.Keeps next) s = record { leaves = refl; replies = refl; whole = λ e. clash (cc) }
+performed C t n w (decision.Meets next y) s = record { leaves = refl; replies = refl; whole = λ e. clash (cc) }
+performed C t n w (decision.Takes next) s = record { leaves = refl; replies = refl; whole = λ e. clash (cc) }
+performed C t n w (decision.Reply number write) s = record { leaves = refl; replies = refl; whole = λ e. clash (cc) }
 
-resting? : (s : Spot) → not (resting s) ≡ true → s ≡ Rest → ⊥
+pub resting? : (s : Spot) → not (resting s) ≡ true → s ≡ Rest → ⊥
 resting? s b e = clash (cc)
 
 module _ (workers : ℕ) (m : Moment) (X : Conf) (h : Held workers m X) (most : workers ≤ 8) (v : ℕ) where
@@ -92,7 +103,7 @@ module _ (workers : ℕ) (m : Moment) (X : Conf) (h : Held workers m X) (most : 
             (f .world) (act-fine6 X (h .fine) (steps v) (λ W e g. clash (cc))) (used-up X (h .fine) v) (f .spot);
         same = record {
           taken = λ x. refl;
-          answered = λ c. replying-is (c v) (move W (X .at v) .answer) ∙ sym (q .replies (begun-of (c v)) ∙ ap (replying (begun-of (c v))) (f .reply));
+          answered = λ c. replying-is (c v) (move W (X .at v) .answer) ∙ sym (answers-is (begun-of (c v)) (answer-of d (record-after w d)) ∙ ap (replying (begun-of (c v))) (q .replies ∙ f .reply));
           honest = λ W e. clash (cc);
         };
         whole = q .whole;

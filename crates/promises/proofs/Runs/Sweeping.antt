@@ -37,14 +37,14 @@ unfolding all-rest
 rest-up zero f h = refl
 rest-up (suc n) f h = rw (h n (omega arith), rest-up n f (λ w l. h w (omega arith)))
 
-idle-below : (t : Table) (n : ℕ) → any-busy t n ≡ false → (w : ℕ) → w < n → busy t w ≡ false
+pub idle-below : (t : Table) (n : ℕ) → any-busy t n ≡ false → (w : ℕ) → w < n → busy t w ≡ false
 unfolding any-busy
 idle-below t zero e w l = absurd (omega arith)
 idle-below t (suc n) e w l =
     let z = neither (busy t n) (any-busy t n) e in
     elim (same? w n) [ inl s ↦ ap (busy t) s ∙ z .0 | inr d ↦ idle-below t n (z .1) w (omega arith) ]
 
-rest-of : (s : Spot) → not (resting s) ≡ false → s ≡ Rest
+pub rest-of : (s : Spot) → not (resting s) ≡ false → s ≡ Rest
 rest-of Rest e = refl
 rest-of (World.Vert p) e = clash (cc)
 rest-of (World.FindU q k l c) e = clash (cc)

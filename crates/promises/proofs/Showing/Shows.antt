@@ -2,6 +2,7 @@
 -- and says what the world says. What is not handed out may be anything. Assumes nothing.
 use Prim.Native.Nat.{ℕ, _+_, _≤_, _<_}
 use mathlib.Core.Bool.{Bool, true, false}
+use mathlib.Core.List.{List, [], _∷_}
 use mathlib.Core.Option.{Option, none, some}
 use mathlib.Core.Path.{_≡_}
 use lib.IntN.{ℤ}
@@ -27,6 +28,8 @@ use Rattle.row.specs.Edges.{Tag, marked, transit, added, head, at}
 use Rattle.row.specs.Edges
 use Rattle.row.specs.World.{World, adds, rems, cons, Opened, closed, opened, Hunt, Spot, Rest, Vert, FindU, FindV, LookE, ConE, Trial, Next}
 use Rattle.row.specs.Deeds.{Mem}
+use Rattle.promises.specs.Bounds.{total}
+use Rattle.promises.proofs.Showing.Weighing.{weigh}
 
 -- the tag of a vertex, and of an edge
 abbrev pub vertex-tag-of : Bool → ℕ
@@ -64,7 +67,20 @@ abbrev pub Open : ℕ → Opened → Type 0
 Open used closed = Unit {0}
 Open used (opened x c) = Series used x
 
--- what a trial keeps: the set met, and the queue from its front on; as many are met as were queued
+-- no number stands twice in a list
+abbrev pub Once : List ℕ → Type 0
+Once [] = Unit {0}
+Once (x ∷ xs) = (Mem x xs → ⊥) × Once xs
+
+-- whom a trial has met: series, of which each was taken, or is still to do, once
+pub record Searched (used : ℕ) (met : ℕ → Bool) (todo : List ℕ) (taken : ℕ → Bool) : Type 0 where
+  pub met-series : (x : ℕ) → met x ≡ true → Series used x
+  pub taken-met : (x : ℕ) → taken x ≡ true → met x ≡ true
+  pub todo-met : (x : ℕ) → Mem x todo → met x ≡ true
+  pub todo-new : (x : ℕ) → Mem x todo → taken x ≡ false
+  pub todo-once : Once todo
+
+-- what a trial keeps: the set met, and the queue from its front on; as many are met as were queued, and who stands before the front was taken
 pub record Hunted (used : ℕ) (w : Worker) (h : Hunt) : Type 0 where
   pub met-words : length (w .met) ≡ 4
   pub queue-length : length (w .queue) ≡ 256
@@ -73,7 +89,8 @@ pub record Hunted (used : ℕ) (w : Worker) (h : Hunt) : Type 0 where
   pub met-same : (x : ℕ) → x < 256 → has (w .met) x ≡ h .met x
   pub counted : met-count (w .met) ≡ w .back
   pub queue-same : drop (w .front) (take (w .back) (w .queue)) ≡ h .todo
-  pub queue-series : (x : ℕ) → Mem x (h .todo) → Series used x
+  pub searched : Searched used (h .met) (h .todo) (h .taken)
+  pub weighed : (f : ℕ → ℕ) → total f (take (w .front) (w .queue)) ≡ weigh f (h .taken) 256
   pub open-series : Open used (h .stand)
 
 abbrev pub trial-place : ℤ → ℤ → ℕ → ℕ → ℕ → Opened → Place

@@ -61,7 +61,7 @@ module _ (C : Catalogue) (W : World) (s : Shows C W) (w : Worker) (k l : ℤ) (u
       decides = d;
       sure = tt;
       world = s;
-      spot = record { asked = asked o; stands = (refl, hunted-takes (W .v .used) w h r x xs q (to o) o stand) };
+      spot = record { asked = asked o; stands = (refl, hunted-takes (W .v .used) w h r x xs q (vertices-in-pool C W s) (to o) o stand) };
       reply = refl;
     }
 

@@ -1,0 +1,79 @@
+-- Every choice but a busy worker's own step leaves that worker where it stands, and keeps the lists. Assumes nothing.
+use Prim.Native.Nat.{ℕ, _≤_, _<_}
+use mathlib.Core.Bool.{true, false}
+use mathlib.Core.Path.{_≡_, refl, sym, ap, subst}
+use borrow.Author.Tests.{eqb-false}
+use lib.IntN.{ℤ}
+use Rattle.catalogue.specs.Calls.{After, count-fits, worker-fits, take-up, step}
+use Rattle.catalogue.specs.Runs.{Choice, takes, steps, sweeps, Moment, choose}
+use Rattle.catalogue.specs.Sweep.{After-sweep, sweep-into, any-busy}
+use Rattle.catalogue.specs.Workers.{busy}
+use Rattle.catalogue.proofs.Picks.{pick-both}
+use Rattle.row.specs.Base.{upd-other, clash}
+use Rattle.row.specs.World
+use Rattle.row.specs.World.{World, Conf, act}
+use Rattle.row.specs.Course.{Both, act-both}
+use Rattle.row.specs.Deeds.{deed-rest}
+use Rattle.promises.specs.Moments.{Key, Keyed}
+use Rattle.promises.specs.Bounds.{lets}
+use Rattle.promises.proofs.Runs.Held.{Held}
+use Rattle.promises.proofs.Runs.Sweeping.{idle-below}
+use Rattle.promises.proofs.Bounds.OwnStep.{in-table, step-is, own-step}
+use Rattle.promises.proofs.Bounds.TakingUp.{taking-both, begins}
+
+-- another choice: w stands where it stood
+pub record Passes (workers : ℕ) (m : Moment) (X : Conf) (w : ℕ) : Type 0 where
+  pub conf : Conf
+  pub held : Held workers m conf
+  pub same : conf .at w ≡ X .at w
+  pub both : Both (X .world) (conf .world)
+
+module _ (workers : ℕ) (m : Moment) (X : Conf) (h : Held workers m X) (most : workers ≤ 8) (w : ℕ) where
+  still : Both (X .world) (X .world)
+  still = let d = deed-rest (X .world) (h .fine .good) 0 in record { vm = d .vmoves; em = d .emoves }
+
+  -- nothing changes
+  unchanged : Passes workers m X w
+  unchanged = record { conf = X; held = h; same = refl; both = still }
+
+  abbrev after-call : After → Type 0
+  after-call a = Passes workers (record { catalogue = a .catalogue; table = a .table }) X w
+
+  steps-by : (v : ℕ) → (w ≡ v → ⊥) → after-call (step (m .catalogue) (m .table) v)
+  unfolding step
+  steps-by v n =
+      pick-both after-call (worker-fits (m .table .count) v) _ _
+      (λ e.
+      let low = in-table workers m X h most v e in
+      pick-both after-call (busy (m .table) v) _ _
+      (λ b. subst after-call (step-is workers m X h most v low b) (record {
+        conf = act X (World.steps v);
+        held = own-step workers m X h most v low b .held;
+        same = upd-other (X .at) v _ w n;
+        both = act-both X (h .fine) (World.steps v) (λ W z. clash (cc));
+      }))
+      (λ b. unchanged))
+      (λ e. unchanged)
+
+  takes-by : busy (m .table) w ≡ true → (v code : ℕ) (k l : ℤ) → Key k → Key l → after-call (take-up (m .catalogue) (m .table) v code k l)
+  takes-by b v code k l hk hl =
+      taking-both workers m X h most v code k l after-call (λ r. unchanged)
+      (λ low i c r.
+      let z = begins workers m X h most v code k l hk hl low i c r in
+      record { conf = _; held = z .held; same = upd-other (X .at) v _ w (λ e. clash (cc (ap (busy (m .table)) e))); both = still })
+
+  sweeps-by : w < workers → busy (m .table) w ≡ true → Passes workers (choose m sweeps .moment) X w
+  unfolding sweep-into
+  sweeps-by low b =
+      pick-both left (count-fits (m .table .count)) _ _
+      (λ e. pick-both left (any-busy (m .table) (m .table .count)) _ _ (λ i. unchanged)
+      (λ i. clash (cc (idle-below (m .table) (m .table .count) i w (rw (h .counted) low)))))
+      (λ e. unchanged)
+    where
+      left : After-sweep → Type 0
+      left a = Passes workers (record { catalogue = a .second; table = m .table }) X w
+
+  pub passes : w < workers → busy (m .table) w ≡ true → (c : Choice) → Keyed c → lets w c ≡ false → Passes workers (choose m c .moment) X w
+  passes low b (takes v code k l) q n = takes-by b v code k l (q .0) (q .1)
+  passes low b (steps v) q n = steps-by v (λ e. eqb-false v w n (sym e))
+  passes low b sweeps q n = sweeps-by low b
