@@ -7,3 +7,6 @@ pub mod Sweeps
 pub mod Runs
 pub mod Rows
 pub mod Bounds
+pub mod Fates
+pub mod Outside
+pub mod Promised

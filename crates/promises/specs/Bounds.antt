@@ -13,10 +13,9 @@ use Rattle.catalogue.specs.Runs.{Choice, takes, steps, sweeps, Moment, choose, 
 use Rattle.catalogue.specs.Workers.{worker-at}
 use Rattle.catalogue.specs.declared.answers.Answer.{Answer}
 use Rattle.catalogue.specs.declared.answers.Answer.the-variants.{Going, Reply, Refused}
-use Rattle.catalogue.specs.declared.workers.Place.{Place}
 use Rattle.catalogue.specs.declared.workers.Place.the-variants as place
 use Rattle.catalogue.specs.declared.workers.Prev.{Prev}
-use Rattle.promises.specs.Moments.{All, Keyed, Given, at}
+use Rattle.promises.specs.Moments.{All, Keyed, Given, at, place-of}
 use Rattle.promises.specs.Histories.{accepted}
 
 -- ---- steps of one worker, and when they are replied to
@@ -69,9 +68,6 @@ abbrev pub ConEBound : Type 0
 ConEBound = Call-most 6 2557
 
 -- ---- trials
-
-abbrev pub place-of : Moment → ℕ → Place
-place-of m w = worker-at (m .table) w .place
 
 -- A step of w inserts its edge: before it w looks, at p and c, for the edge's place in the list of u; after it w is on trial, with the edge e to v.
 pub record Inserts (w : ℕ) (m : Moment) : Type 0 where

@@ -3,7 +3,8 @@ pub mod Moments
 pub mod Graphs
 pub mod Alone
 pub mod Histories
-pub mod Promises
+pub mod Outside
 pub mod Bounds
+pub mod Promises
 pub mod Examples
 pub mod BoundExamples

@@ -7,6 +7,8 @@ use lib.IntN.{ℤ}
 use lib.ListN.{getD, take}
 use lib.Signed.{ltZ}
 use Rattle.catalogue.specs.Numbers.{least, greatest}
+use Rattle.catalogue.specs.Workers.{worker-at}
+use Rattle.catalogue.specs.declared.workers.Place.{Place}
 use Rattle.catalogue.specs.Runs.{Choice, takes, steps, sweeps, Moment, start, after}
 
 -- every member of a list
@@ -39,3 +41,7 @@ moment workers choices n = at workers (take n choices)
 
 abbrev pub chosen : ℕ → List Choice → ℕ → Choice
 chosen workers choices n = getD choices n (steps workers)
+
+-- Where a worker stands.
+abbrev pub place-of : Moment → ℕ → Place
+place-of m w = worker-at (m .table) w .place

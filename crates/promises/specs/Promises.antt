@@ -1,10 +1,11 @@
 -- Demand 3: what holds of every run. Stated over the definitions that the contracts of the code cite; proved in proofs/.
-use Prim.Native.Nat.{ℕ}
+use Prim.Native.Nat.{ℕ, _≤_, _<_}
 use mathlib.Core.Bool.{true, false}
 use mathlib.Core.List.{List}
 use mathlib.Core.Path.{_≡_}
 use lib.IntN.{ℤ}
 use lib.ListN.{length}
+use Rattle.catalogue.specs.Workers.{request-of}
 use Rattle.catalogue.specs.Calls.{take-up, step}
 use Rattle.catalogue.specs.Runs.{Choice, takes, steps, sweeps, Moment}
 use Rattle.catalogue.specs.Run.{run}
@@ -15,10 +16,12 @@ use Rattle.catalogue.specs.declared.answers.Refusal.the-variants.{Torn}
 use Rattle.catalogue.specs.declared.answers.Answer.the-variants as answer
 use Rattle.catalogue.specs.declared.answers.Made.the-variants as made
 use Rattle.row.specs.Row.{Entry, Explains}
-use Rattle.promises.specs.Moments.{Keyed, Given, at}
+use Rattle.promises.specs.Moments.{Keyed, Given, at, moment, place-of}
 use Rattle.promises.specs.Graphs.{Graph, empty, live, Walk}
 use Rattle.promises.specs.Alone.{Ask, Alone}
+use Rattle.promises.specs.Bounds.{ConVBound, ConEBound, TrialBound, TrialAlone}
 use Rattle.promises.specs.Histories.{history, in-row}
+use Rattle.promises.specs.Outside.{Replies, left, Lacks, Rival, Lives, Crosses, Closes, Undisturbed}
 
 -- No series is derived from itself, over however many derivations between live series.
 abbrev pub NoLoop : Type 0
@@ -71,3 +74,49 @@ pub record Outcome (g : Graph) (q : Ask) : Type 0 where
 
 abbrev pub OneOutcome : Type 0
 OneOutcome = (workers : ℕ) (choices : List Choice) → Given workers choices → (q : Ask) → Outcome (live (at workers choices .catalogue)) q
+
+-- Reply 9 is given exactly where a node is needed and its pool is used up, and changes nothing.
+abbrev pub NoRoom : Type 0
+NoRoom =
+    (workers : ℕ) (choices : List Choice) → Given workers choices → (w : ℕ) → w < workers → let m = at workers choices in
+    (Replies m w 9 → Lacks (m .catalogue) (place-of m w)) × (Lacks (m .catalogue) (place-of m w) → Replies m w 9)
+    × (Replies m w 9 → left m w ≡ m .catalogue)
+
+-- Reply 7 is given only while another worker tries the pair that w was asked for, and changes nothing.
+abbrev pub OnTrial : Type 0
+OnTrial =
+    (workers : ℕ) (choices : List Choice) → Given workers choices → (w : ℕ) → w < workers → let m = at workers choices in
+    Replies m w 7 → let r = request-of (place-of m w) in Rival workers m w (r .k) (r .l) × (left m w ≡ m .catalogue)
+
+-- Reply 6 is given only where the trial has come from the target back to the source, over edges that stood when they were crossed. Nothing live changes.
+abbrev pub Cycle : Type 0
+Cycle =
+    (workers : ℕ) (choices : List Choice) → Given workers choices → (w : ℕ) → w < workers → let m = at workers choices in
+    Replies m w 6 → Closes workers choices w × (live (left m w) ≡ live (m .catalogue))
+
+-- If nobody else tried anything meanwhile, the pair would have closed a loop when it was put in: whatever the trial crossed was live then, and so a walk led
+-- from l to k.
+abbrev pub CycleAlone : Type 0
+CycleAlone =
+    (workers : ℕ) (choices : List Choice) → Given workers choices → (w : ℕ) → w < workers → (z : Closes workers choices w)
+    → Undisturbed workers choices w (z .first) (length choices) → let C = moment workers choices (z .first) .catalogue in
+    ((n x y : ℕ) → z .first ≤ n → n < length choices → (r : Crosses workers choices w (z .k) (z .l) (z .u) (z .v) (z .e) n x y) → Lives C x (r .edge) y)
+    × Walk (live C) (z .k) (z .l)
+
+-- All of them, with the bounds on steps.
+pub record Promises : Type 0 where
+  pub no-loop : NoLoop
+  pub never-torn : NeverTorn
+  pub sound-at-rest : SoundAtRest
+  pub scripts-played : ScriptsPlayed
+  pub one-row : OneRow
+  pub begins-empty : BeginsEmpty
+  pub one-outcome : OneOutcome
+  pub no-room : NoRoom
+  pub on-trial : OnTrial
+  pub cycle : Cycle
+  pub cycle-alone : CycleAlone
+  pub con-v-bound : ConVBound
+  pub con-e-bound : ConEBound
+  pub trial-bound : TrialBound
+  pub trial-alone : TrialAlone

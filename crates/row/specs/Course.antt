@@ -32,7 +32,7 @@ pub record Fine6 (X : Conf) : Type 0 where
   pub few : (w : ℕ) → 8 ≤ w → X .at w ≡ Rest
   pub tried : (e : ℕ) → OnTrial (X .world) e → (w : ℕ) × (own (X .at w) ≡ e)
 
-serves-any : (pl : Spot) → (q : Ask) × Serves6 q pl
+pub serves-any : (pl : Spot) → (q : Ask) × Serves6 q pl
 serves-any Rest = (vert (conV least), tt)
 serves-any (Vert pl) = let z = wants pl in (vert (z .0), (z .0, refl, z .1))
 serves-any (FindU d k l c) = (ask-of d k l, refl)

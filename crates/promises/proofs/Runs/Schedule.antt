@@ -62,7 +62,7 @@ module _ (workers : ℕ) (choices : List Choice) (given : Given workers choices)
   abbrev does : ℕ → Choice
   does n = chosen workers choices n
 
-  moment-next : (n : ℕ) → at n .table .count ≡ workers → at (suc n) ≡ choose (at n) (does n) .moment
+  pub moment-next : (n : ℕ) → at n .table .count ≡ workers → at (suc n) ≡ choose (at n) (does n) .moment
   moment-next n w =
       elim (one-more (start workers) choices n (steps workers)) [
         | inl e ↦ e

@@ -2,11 +2,14 @@
 use Prim.Native.Nat.{ℕ, _+_, _≤_, _<_}
 use mathlib.Core.Path.{_≡_}
 use native.Mathlib.Omega.{arith}
-use borrow.Author.Tests.{eq-eqb, lt-ltb, le-ltb}
+use borrow.Author.Tests.{eqb-true, eq-eqb, lt-ltb, le-ltb}
+use lib.Dec.{eqb, ltb}
 use lib.IntN.{ℤ}
 use Rattle.catalogue.specs.Numbers.{room}
 use Rattle.catalogue.specs.Catalogue.{Catalogue}
+use Rattle.catalogue.specs.declared.links.Room.{Room}
 use Rattle.catalogue.specs.declared.links.Room.the-variants as room
+use Rattle.catalogue.proofs.Picks.{pick-both}
 use Rattle.row.specs.Graph.{IsV, WGood}
 use Rattle.row.specs.Store.{Cat}
 use Rattle.row.specs.World.{World}
@@ -20,6 +23,12 @@ module _ (limit lowest count : ℕ) where
   pub room-full : count ≤ limit → limit ≤ count → room limit lowest count ≡ room.Full
   unfolding room
   room-full l h = rw (le-ltb count limit h, eq-eqb count limit (omega arith))
+
+-- the next node of a pool, or none
+pub room-both : (P : Room → Type 0) (limit lowest count : ℕ) → ((n : ℕ) → P (room.Next n)) → (count ≡ limit → P room.Full) → P room.Torn → P (room limit lowest count)
+unfolding room
+room-both P limit lowest count f g t =
+    pick-both P (ltb count limit) _ _ (λ e. f (lowest + count)) (λ e. pick-both P (eqb count limit) _ _ (λ e. g (eqb-true count limit e)) (λ e. t))
 
 module _ (C : Catalogue) (W : World) (s : Shows C W) where
   pub vertices-in-pool : W .v .used ≤ 256

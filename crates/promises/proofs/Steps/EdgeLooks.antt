@@ -38,7 +38,7 @@ pub data Sees (W : World) (l : ℤ) (u : ℕ) (p : Prev) (c : ℕ) : EdgeSeen �
   passes : link (W .e) u p ≡ c → Out (W .e .used) c → Sees W l u p c (seen.Unlinks (tag-behind (W .e .tag) p) (W .e .next c)) e-passes
   marks : Out (W .e .used) c → Sees W l u p c (seen.Marks (W .e .next c)) e-marks
   onward : Out (W .e .used) c → Sees W l u p c (seen.Onward (W .e .next c)) e-onward
-  equal : Out (W .e .used) c → eqZ (W .e .key c) l ≡ true → (t : Tag) → W .e .tag c ≡ t → is-marked t ≡ false
+  equal : link (W .e) u p ≡ c → Out (W .e .used) c → eqZ (W .e .key c) l ≡ true → (t : Tag) → W .e .tag c ≡ t → is-marked t ≡ false
       → Sees W l u p c (seen.Settles (tag-behind (W .e .tag) p) (W .e .next c) (edge-tag-of t) true) e-settle
   other : link (W .e) u p ≡ c → eqZ (W .e .key c) l ≡ false → (next tag : ℕ) → Sees W l u p c (seen.Settles (tag-behind (W .e .tag) p) next tag false) e-settle
 
@@ -83,7 +83,7 @@ module _ (C : Catalogue) (W : World) (s : Shows C W) (g : WGood W) (l : ℤ) (u 
     where
       by : (b q : Bool) → eqZ (W .e .key c) l ≡ q → Sees W l u p c (by-key (W .e .next c) (edge-tag-of t) b q) (cond b e-onward e-settle)
       by true q f = onward o
-      by false true f = equal o f t e m
+      by false true f = equal lead o f t e m
       by false false f = other lead f (W .e .next c) (edge-tag-of t)
 
   -- (c), (d): c's tag, where c is no tail

@@ -67,7 +67,7 @@ module _ (C : Catalogue) (w : Worker) (k l : ℤ) (u v : ℕ) where
     decided x y (marks o) d =
         looks-on b a (with-e W (retag (W .e) c marked)) (write.EdgeLink c (W .e .next c) 1) (shows-retag C W s c o marked) p c fits d
     decided x y (onward o) d = looks-on b a W write.Nothing (unwritten C W s) (at c) (W .e .next c) (next-fits C W s c o) d
-    decided x y (equal o e t f m) d = settles-equal C W s some w k l u v p c fits goal behind b o t f m e d
+    decided x y (equal lead o e t f m) d = settles-equal C W s some w k l u v p c fits goal behind b o t f m e d
     decided x y (other lead e next tag) d = settles-other C W s some w k l u v p c fits goal behind b a lead e next tag d
 
 pub look-follows : (b : Bool) (k l : ℤ) (u v : ℕ) (p : Prev) (c : ℕ) → FollowsAt (LookE b k l u v p c)

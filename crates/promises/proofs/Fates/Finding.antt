@@ -1,0 +1,57 @@
+-- What ConV and the looks for u and v decide: a reply in the row, or to look on. Assumes nothing.
+use Prim.Native.Nat.{ℕ}
+use mathlib.Core.Path.{refl}
+use lib.IntN.{ℤ}
+use lib.Dec.{eqb}
+use Rattle.catalogue.specs.Numbers.{head}
+use Rattle.catalogue.specs.Catalogue.{Catalogue, vertex-link, first-link}
+use Rattle.catalogue.specs.Steps.Finding.{look-for, decide-contains, step-contains, not-found, found-u, decide-find-u, step-find-u, found-v, decide-find-v, step-find-v}
+use Rattle.catalogue.specs.declared.steps.Decision.{Decision}
+use Rattle.catalogue.specs.declared.steps.Decision.the-variants.{Reply}
+use Rattle.catalogue.specs.declared.steps.VertexFound.{VertexFound}
+use Rattle.catalogue.specs.declared.steps.VertexFound.the-variants as found
+use Rattle.catalogue.specs.declared.workers.Place.{Place}
+use Rattle.catalogue.specs.declared.workers.Place.the-variants.{ConV}
+use Rattle.catalogue.specs.declared.writes.Write.the-variants.{Nothing}
+use Rattle.catalogue.proofs.Picks.{pick-both, vertex-both, edge-both}
+use Rattle.promises.proofs.Fates.Told.{Fate, in-row}
+use Rattle.promises.proofs.Fates.Places.{to-u, to-v, to-edges}
+
+module _ (C : Catalogue) (x front back : ℕ) where
+  abbrev F : Place → Decision → Type 0
+  F pl = Fate C x front back pl
+
+  pub contains : (k : ℤ) (c : ℕ) → F (ConV k c) (step-contains C k c)
+  unfolding step-contains
+  contains k c = by (look-for C k c)
+    where
+      by : (z : VertexFound) → F (ConV k c) (decide-contains k z)
+      by found.Torn = tt
+      by (found.Onward next) = refl
+      by found.Found = in-row refl
+      by found.Missing = in-row refl
+
+  lost : (pl : Place) (code : ℕ) → F pl (Reply (not-found code) Nothing)
+  unfolding not-found
+  lost pl code =
+      pick-both (λ n. F pl (Reply n Nothing)) (eqb code 6) 8 3 (λ e. in-row refl) (λ e. in-row refl)
+
+  pub finds-u : (pl : Place) (code : ℕ) (k l : ℤ) (c : ℕ) → F pl (step-find-u C code k l c)
+  unfolding step-find-u found-u
+  finds-u pl code k l c = by (look-for C k c)
+    where
+      by : (z : VertexFound) → F pl (decide-find-u C code k l c z)
+      by found.Torn = tt
+      by (found.Onward next) = to-u code k l next
+      by found.Found = vertex-both (F pl) (vertex-link C head) _ _ tt (λ first tag e. to-v code k l c first)
+      by found.Missing = lost pl code
+
+  pub finds-v : (pl : Place) (code : ℕ) (k l : ℤ) (u c : ℕ) → F pl (step-find-v C code k l u c)
+  unfolding step-find-v found-v
+  finds-v pl code k l u c = by (look-for C l c)
+    where
+      by : (z : VertexFound) → F pl (decide-find-v C code k l u c z)
+      by found.Torn = tt
+      by (found.Onward next) = to-v code k l u next
+      by found.Found = edge-both (F pl) (first-link C u) _ _ tt (λ first tag e. to-edges code k l u c first)
+      by found.Missing = lost pl code

@@ -1,0 +1,103 @@
+-- How a worker has come to stand in its trial with one choice: the trial has begun, or it was under way and took one of its kinds of step. Assumes nothing.
+use Prim.Native.Nat.{ℕ, suc, _<_}
+use mathlib.Core.Bool.{false}
+use mathlib.Core.List.{List}
+use mathlib.Core.Path.{_≡_, refl, ap, sym, _∙_}
+use native.Mathlib.Omega.{arith}
+use lib.IntN.{ℤ}
+use Rattle.catalogue.specs.Catalogue.{Catalogue}
+use Rattle.catalogue.specs.Runs.{Choice, steps, Moment}
+use Rattle.catalogue.specs.Workers.{begun, kept, queued, taken, worker-at, front-of}
+use Rattle.catalogue.specs.Steps.Decide.{record-after}
+use Rattle.catalogue.specs.declared.steps.Decision.{Decision}
+use Rattle.catalogue.specs.declared.steps.Decision.the-variants.{Torn, Code, Going, Begins, Keeps, Meets, Takes, Reply}
+use Rattle.catalogue.specs.declared.workers.Place.{Place}
+use Rattle.catalogue.specs.declared.workers.Place.the-variants.{AddE, Trial}
+use Rattle.catalogue.specs.declared.workers.Prev.{Prev}
+use Rattle.catalogue.specs.declared.workers.Worker.{Worker}
+use Rattle.catalogue.proofs.Picks.{clash}
+use Rattle.promises.specs.Moments.{Given, moment, chosen, place-of}
+use Rattle.promises.specs.Outside.{Tries, shut, open-at}
+use Rattle.promises.proofs.Fates.Told.{trying, tries-trying, Begun, Kept, stays, closes, Met, Taken, skips, opens, Fate}
+use Rattle.promises.proofs.Fates.Any.{fate}
+use Rattle.promises.proofs.Outside.Passing.{Passed, same, stepped, took-up, passed}
+use Rattle.promises.proofs.Runs.Schedule.{moment-next}
+use Rattle.promises.proofs.Outside.Run.{run}
+
+-- ---- a trial that goes on was the same before
+
+module _ {pl next : Place} {k l : ℤ} {u v e : ℕ} where
+  kept-back : Kept pl next → Tries k l u v e next → Tries k l u v e pl
+  kept-back (stays i j a b f x c d p q) (shut t) = clash (cc)
+  kept-back (stays i j a b f x c d p q) (open-at y z t) = open-at x c (cc)
+  kept-back (closes i j a b f x c p q) (shut t) = open-at x c (cc)
+  kept-back (closes i j a b f x c p q) (open-at y z t) = clash (cc)
+
+  met-back : {C : Catalogue} {back y : ℕ} (m : Met C back pl next y) → Tries k l u v e next → Tries k l u v e pl
+  met-back m (shut t) = clash (cc (m .to))
+  met-back m (open-at y z t) = open-at (m .x) (m .c) (cc (m .from, m .to))
+
+  taken-back : {x front back : ℕ} → Taken x front back pl next → Tries k l u v e next → Tries k l u v e pl
+  taken-back (skips i j a b f p q n) (shut t) = shut (cc)
+  taken-back (skips i j a b f p q n) (open-at y z t) = clash (cc)
+  taken-back (opens i j a b f c p q n d) (shut t) = clash (cc)
+  taken-back (opens i j a b f c p q n d) (open-at y z t) = shut (cc)
+
+-- ---- by one choice
+
+module _ (m : Moment) (c : Choice) (w : ℕ) where
+  -- the record before
+  abbrev was : Worker
+  was = worker-at (m .table) w
+
+  -- how w has come to the record s, with which it tries
+  pub data Way (k l : ℤ) (u v e : ℕ) (s : Worker) : Type 0 where
+    begins : (p : Prev) (d : ℕ) → was .place ≡ AddE k l u v p d → s ≡ begun (Trial k l u v e) v → Way k l u v e s
+    rests : Tries k l u v e (was .place) → s ≡ was → Way k l u v e s
+    keeps : Tries k l u v e (was .place) → (next : Place) → s ≡ kept was next → Kept (was .place) next → Way k l u v e s
+    meets : Tries k l u v e (was .place) → c ≡ steps w → (next : Place) (y : ℕ) → s ≡ queued was next y
+        → Met (m .catalogue) (was .back) (was .place) next y → Way k l u v e s
+    takes : Tries k l u v e (was .place) → (next : Place) → s ≡ taken was next → Taken (front-of was) (was .front) (was .back) (was .place) next
+        → Way k l u v e s
+
+  module _ (k l : ℤ) (u v e : ℕ) (s : Worker) (t : Tries k l u v e (s .place)) where
+    no-trial : (pl : Place) → s .place ≡ pl → trying pl ≡ false → Way k l u v e s
+    no-trial pl q f = clash (cc (tries-trying t, ap trying q))
+
+    begun-by : (next : Place) (y : ℕ) → s ≡ begun next y → Begun (was .place) next y → Way k l u v e s
+    begun-by next y q b =
+        elim t [
+          | shut z ↦
+              let n : next ≡ Trial k l u v e = ap (λ (x : Worker). x .place) (sym q) ∙ z in
+              let i : y ≡ v = cc (b .to) in
+              begins (b .p) (b .c) (b .from ∙ cc (b .to)) (q ∙ rw (n, i) refl)
+          | open-at x d z ↦ clash (cc (b .to, ap (λ (x : Worker). x .place) q))
+        ]
+
+    by-decision : c ≡ steps w → (d : Decision) → s ≡ record-after was d
+        → Fate (m .catalogue) (front-of was) (was .front) (was .back) (was .place) d → Way k l u v e s
+    by-decision i Torn q f = rests (rw q at t) q
+    by-decision i Code q f = rests (rw q at t) q
+    by-decision i (Going next write) q f = no-trial next (ap (λ (x : Worker). x .place) q) f
+    by-decision i (Begins next write y) q f = begun-by next y q f
+    by-decision i (Keeps next) q f = keeps (kept-back f (rw q at t)) next q f
+    by-decision i (Meets next y) q f = meets (met-back f (rw q at t)) i next y q f
+    by-decision i (Takes next) q f = takes (taken-back f (rw q at t)) next q f
+    by-decision i (Reply n write) q f = no-trial _ (ap (λ (x : Worker). x .place) q) refl
+
+    pub way : Passed m c w s → Way k l u v e s
+    way (same q) = rests (rw q at t) q
+    way (stepped i d e q) = by-decision i d q (rw e at (fate (m .catalogue) was))
+    way (took-up f) = no-trial (s .place) refl f
+
+module _ (workers : ℕ) (choices : List Choice) (g : Given workers choices) (w : ℕ) (low : w < workers) where
+  -- from one moment of a run to the next
+  pub way-next : (n : ℕ) (k l : ℤ) (u v e : ℕ) → Tries k l u v e (place-of (moment workers choices (suc n)) w)
+      → Way (moment workers choices n) (chosen workers choices n) w k l u v e (worker-at (moment workers choices (suc n) .table) w)
+  way-next n k l u v e t =
+      let most = g .most in
+      let h = run workers choices g n .1 in
+      let m : Moment = moment workers choices n in
+      let p = passed m w (omega (arith, h .eight)) (chosen workers choices n) in
+      way m (chosen workers choices n) w k l u v e (worker-at (moment workers choices (suc n) .table) w) t
+      (rw (moment-next workers choices g n (h .counted)) p)

@@ -1,0 +1,121 @@
+-- The three replies that stand outside the row: 9 for want of a node, 7 for a pair on trial, and 6 for a pair that would close a loop.
+use Prim.Native.Nat.{ℕ, suc, _≤_, _<_}
+use mathlib.Core.Bool.{true, false}
+use mathlib.Core.List.{List}
+use mathlib.Core.Path.{_≡_}
+use lib.IntN.{ℤ}
+use lib.ListN.{length}
+use Rattle.catalogue.specs.Tests.{member}
+use Rattle.catalogue.specs.Numbers.{most-vertices, most-edges, marked}
+use Rattle.catalogue.specs.Catalogue.{Catalogue, vertex-key, edge-link, edge-target}
+use Rattle.catalogue.specs.Live.{edges-of, unmarked, live-vertices, live-edges-of}
+use Rattle.catalogue.specs.Calls.{step}
+use Rattle.catalogue.specs.Runs.{Choice, steps, Moment}
+use Rattle.catalogue.specs.Steps.Vertices.{look-at-vertex}
+use Rattle.catalogue.specs.Steps.Edges.{look-at-edge}
+use Rattle.catalogue.specs.declared.answers.Answer.the-variants.{Reply}
+use Rattle.catalogue.specs.declared.links.EdgeLink.the-variants as edge
+use Rattle.catalogue.specs.declared.links.Target.the-variants as target
+use Rattle.catalogue.specs.declared.steps.VertexSeen.the-variants as vertex-seen
+use Rattle.catalogue.specs.declared.steps.EdgeSeen.the-variants as edge-seen
+use Rattle.catalogue.specs.declared.workers.Place.{Place}
+use Rattle.catalogue.specs.declared.workers.Place.the-variants.{AddV, AddE, Trial, TrialOpen}
+use Rattle.catalogue.specs.declared.workers.Prev.{Prev}
+use Rattle.promises.specs.Moments.{at, moment, chosen, place-of}
+
+-- what a worker's step replies, and which catalogue that leaves
+abbrev pub Replies : Moment → ℕ → ℕ → Type 0
+Replies m w n = step (m .catalogue) (m .table) w .answer ≡ Reply n
+
+abbrev pub left : Moment → ℕ → Catalogue
+left m w = step (m .catalogue) (m .table) w .catalogue
+
+-- ---- 9
+
+-- A node is needed, because the look settles and has found no such key, and all nodes of its pool are handed out.
+pub data Lacks (C : Catalogue) : Place → Type 0 where
+  a-vertex : {k : ℤ} {p c : ℕ} (next : ℕ) → look-at-vertex C k p c ≡ vertex-seen.Settles next false
+      → C .vertices-out ≡ most-vertices → Lacks C (AddV k p c)
+  an-edge : {k l : ℤ} {u v : ℕ} {p : Prev} {c : ℕ} (kept next tag : ℕ) → look-at-edge C l u v p c ≡ edge-seen.Settles kept next tag false
+      → C .edges-out ≡ most-edges → Lacks C (AddE k l u v p c)
+
+-- ---- 7
+
+-- A worker tries the pair (k, l): its own edge is e, from the vertex u to the vertex v.
+pub data Tries (k l : ℤ) (u v e : ℕ) (place : Place) : Type 0 where
+  shut : place ≡ Trial k l u v e → Tries k l u v e place
+  open-at : (x c : ℕ) → place ≡ TrialOpen k l u v e x c → Tries k l u v e place
+
+-- Another worker than w tries the pair (k, l).
+pub record Rival (workers : ℕ) (m : Moment) (w : ℕ) (k l : ℤ) : Type 0 where
+  pub worker : ℕ
+  pub inside : worker < workers
+  pub other : worker ≡ w → ⊥
+  pub u : ℕ
+  pub v : ℕ
+  pub e : ℕ
+  pub tries : Tries k l u v e (place-of m worker)
+
+-- ---- 6
+
+-- The edge e stands from x to y: it is in the list of x, it is not MARKED and leads to y, and x and y are not marked.
+pub record Stands (C : Catalogue) (x e y : ℕ) : Type 0 where
+  pub listed : member e (edges-of C x) ≡ true
+  pub next : ℕ
+  pub tag : ℕ
+  pub link : edge-link C e ≡ edge.At next tag
+  pub plain : tag ≡ marked → ⊥
+  pub leads : edge-target C e ≡ target.At y
+  pub source : unmarked C x ≡ true
+  pub goal : unmarked C y ≡ true
+
+-- The edge e is live from x to y.
+pub record Lives (C : Catalogue) (x e y : ℕ) : Type 0 where
+  pub source : member x (live-vertices C) ≡ true
+  pub listed : member e (live-edges-of C x) ≡ true
+  pub leads : edge-target C e ≡ target.At y
+
+module _ (workers : ℕ) (choices : List Choice) (w : ℕ) where
+  -- A trial of w: of the pair (k, l), with its own edge e from u to v.
+  module _ (k l : ℤ) (u v e : ℕ) where
+    -- It lasts from the moment `first` to the moment `last`; the choice before `first` has put e in.
+    pub record Lasts (first last : ℕ) : Type 0 where
+      pub before : ℕ
+      pub begins : first ≡ suc before
+      pub started : first ≤ last
+      pub p : Prev
+      pub c : ℕ
+      pub adds : place-of (moment workers choices before) w ≡ AddE k l u v p c
+      pub tries : (n : ℕ) → first ≤ n → n ≤ last → Tries k l u v e (place-of (moment workers choices n) w)
+
+    -- With choice n it crosses an edge from x, which is open, to y; and the edge stands at that moment.
+    pub record Crosses (n x y : ℕ) : Type 0 where
+      pub edge : ℕ
+      pub chose : chosen workers choices n ≡ steps w
+      pub opened : place-of (moment workers choices n) w ≡ TrialOpen k l u v e x edge
+      pub stands : Stands (moment workers choices n .catalogue) x edge y
+
+    -- A chain of such crossings from v on, by choices from `first` on and before `last`. It may be v alone: so it is where u is v.
+    pub data Crossed (first last : ℕ) : ℕ → Type 0 where
+      here : Crossed first last v
+      cross : {x y : ℕ} (n : ℕ) → first ≤ n → n < last → Crosses n x y → Crossed first last x → Crossed first last y
+
+  -- After the last choice w stands at the end of a trial that has come from v, whose key is l, back to u, whose key is k.
+  pub record Closes : Type 0 where
+    pub k : ℤ
+    pub l : ℤ
+    pub u : ℕ
+    pub v : ℕ
+    pub e : ℕ
+    pub there : place-of (at workers choices) w ≡ Trial k l u v e
+    pub source : vertex-key (at workers choices .catalogue) u ≡ k
+    pub goal : vertex-key (at workers choices .catalogue) v ≡ l
+    pub first : ℕ
+    pub lasts : Lasts k l u v e first (length choices)
+    pub chain : Crossed k l u v e first (length choices) u
+
+  -- No other worker tries anything from the moment `first` to the moment `last`.
+  abbrev pub Undisturbed : ℕ → ℕ → Type 0
+  Undisturbed first last =
+      (n : ℕ) → first ≤ n → n ≤ last → (x : ℕ) → x < workers → (x ≡ w → ⊥)
+      → (k l : ℤ) (u v e : ℕ) → Tries k l u v e (place-of (moment workers choices n) x) → ⊥
