@@ -1,0 +1,88 @@
+-- Catalogues that agree agree after the same write: each field is stored to at the same number. Assumes nothing.
+use Prim.Native.Nat.{ℕ, _<_}
+use mathlib.Core.Path.{_≡_, refl, ap}
+use lib.IntN.{ℤ}
+use lib.Dec.{eqb}
+use Rattle.catalogue.specs.Tests.{pick, upd}
+use Rattle.catalogue.specs.Numbers.{vertex-pool, edge-pool, link, edge-tail, plain, transit}
+use Rattle.catalogue.specs.Catalogue.{Catalogue}
+use Rattle.catalogue.specs.Writes.{with-vertex-link, with-first, with-edge-link, with-vertex, with-edge, commit}
+use Rattle.catalogue.specs.declared.writes.Write.{Write}
+use Rattle.catalogue.specs.declared.writes.Write.the-variants.{Nothing, VertexLink, NewVertex, FirstEdge, EdgeLink, NewFirst, NewEdge}
+use Rattle.lent.proofs.Agrees.{Agree}
+
+upd-same : {A : Type 0} (bound : ℕ) (f g : ℕ → A) (i : ℕ) (v : A) → ((n : ℕ) → n < bound → f n ≡ g n)
+    → (n : ℕ) → n < bound → upd f i v n ≡ upd g i v n
+unfolding upd
+upd-same bound f g i v h n b = ap (pick (eqb n i) v) (h n b)
+
+module _ {C D : Catalogue} (a : Agree C D) (n : ℕ) where
+  vertex-linked : (word : ℕ) → Agree (with-vertex-link C n word) (with-vertex-link D n word)
+  vertex-linked word = record {
+    vertices = a .vertices;
+    edges = a .edges;
+    vkeys = a .vkeys;
+    vlinks = upd-same vertex-pool (C .vlink) (D .vlink) n word (a .vlinks);
+    firsts = a .firsts;
+    ekeys = a .ekeys;
+    targets = a .targets;
+    elinks = a .elinks;
+  }
+
+  first-linked : (word : ℕ) → Agree (with-first C n word) (with-first D n word)
+  first-linked word = record {
+    vertices = a .vertices;
+    edges = a .edges;
+    vkeys = a .vkeys;
+    vlinks = a .vlinks;
+    firsts = upd-same vertex-pool (C .first) (D .first) n word (a .firsts);
+    ekeys = a .ekeys;
+    targets = a .targets;
+    elinks = a .elinks;
+  }
+
+  edge-linked : (word : ℕ) → Agree (with-edge-link C n word) (with-edge-link D n word)
+  edge-linked word = record {
+    vertices = a .vertices;
+    edges = a .edges;
+    vkeys = a .vkeys;
+    vlinks = a .vlinks;
+    firsts = a .firsts;
+    ekeys = a .ekeys;
+    targets = a .targets;
+    elinks = upd-same edge-pool (C .elink) (D .elink) n word (a .elinks);
+  }
+
+  vertex-filled : (key : ℤ) (next : ℕ) → Agree (with-vertex C n key next) (with-vertex D n key next)
+  vertex-filled key next = record {
+    vertices = refl;
+    edges = a .edges;
+    vkeys = upd-same vertex-pool (C .vkey) (D .vkey) n key (a .vkeys);
+    vlinks = upd-same vertex-pool (C .vlink) (D .vlink) n (link next plain) (a .vlinks);
+    firsts = upd-same vertex-pool (C .first) (D .first) n (link edge-tail plain) (a .firsts);
+    ekeys = a .ekeys;
+    targets = a .targets;
+    elinks = a .elinks;
+  }
+
+  edge-filled : (key : ℤ) (target next : ℕ) → Agree (with-edge C n key target next) (with-edge D n key target next)
+  edge-filled key target next = record {
+    vertices = a .vertices;
+    edges = refl;
+    vkeys = a .vkeys;
+    vlinks = a .vlinks;
+    firsts = a .firsts;
+    ekeys = upd-same edge-pool (C .ekey) (D .ekey) n key (a .ekeys);
+    targets = upd-same edge-pool (C .target) (D .target) n target (a .targets);
+    elinks = upd-same edge-pool (C .elink) (D .elink) n (link next transit) (a .elinks);
+  }
+
+pub commit-agree : {C D : Catalogue} → Agree C D → (write : Write) → Agree (commit C write) (commit D write)
+unfolding commit
+commit-agree a Nothing = a
+commit-agree a (VertexLink n next tag) = vertex-linked a n (link next tag)
+commit-agree a (NewVertex n key next p) = vertex-linked (vertex-filled a n key next) p (link n plain)
+commit-agree a (FirstEdge u next) = first-linked a u (link next plain)
+commit-agree a (EdgeLink n next tag) = edge-linked a n (link next tag)
+commit-agree a (NewFirst n key target next u) = first-linked (edge-filled a n key target next) u (link n plain)
+commit-agree a (NewEdge n key target next p tag) = edge-linked (edge-filled a n key target next) p (link n tag)

@@ -1,0 +1,72 @@
+-- Two definitions that go by the same tests and reads give the same, and something of which a thing holds, where that is so in every case. Assumes nothing.
+use Prim.Native.Nat.{ℕ}
+use mathlib.Core.Bool.{Bool, true, false}
+use mathlib.Core.Path.{_≡_, refl, subst}
+use Rattle.catalogue.specs.Tests.{pick}
+use Rattle.catalogue.specs.Catalogue.{at-vertex, at-edge, at-target}
+use Rattle.catalogue.specs.Steps.Both.{at-both}
+use Rattle.catalogue.specs.declared.links.VertexLink.{VertexLink}
+use Rattle.catalogue.specs.declared.links.VertexLink.the-variants as vertex
+use Rattle.catalogue.specs.declared.links.EdgeLink.{EdgeLink}
+use Rattle.catalogue.specs.declared.links.EdgeLink.the-variants as edge
+use Rattle.catalogue.specs.declared.links.Target.{Target}
+use Rattle.catalogue.specs.declared.links.Target.the-variants as target
+use Rattle.catalogue.specs.declared.steps.BothSeen.{BothSeen}
+use Rattle.catalogue.specs.declared.steps.BothSeen.the-variants as both
+
+-- the same on both sides, and P holds of it
+pub record Twin {A : Type 0} (P : A → Type 0) (a b : A) : Type 0 where
+  pub same : a ≡ b
+  pub good : P a
+
+pub twin : {A : Type 0} {P : A → Type 0} (a : A) → P a → Twin P a a
+twin a p = record { same = refl; good = p }
+
+-- the same, and no more
+abbrev pub Same : {A : Type 0} → A → A → Type 0
+Same = Twin (λ x. Unit {0})
+
+-- what follows from a thing that is the same
+pub through : {A B : Type 0} {P : A → Type 0} {Q : B → Type 0} (f g : A → B) → ((a : A) → P a → Twin Q (f a) (g a))
+    → {a b : A} → Twin P a b → Twin Q (f a) (g b)
+through {Q = Q} f g h {a} {b} t = subst (λ x. Twin Q (f a) (g x)) (t .same) (h a (t .good))
+
+module _ {A : Type 0} {P : A → Type 0} where
+  -- the same test
+  pub pick-twin : (t : Bool) {a b a′ b′ : A} → (t ≡ true → Twin P a a′) → (t ≡ false → Twin P b b′) → Twin P (pick t a b) (pick t a′ b′)
+  pick-twin true f g = f refl
+  pick-twin false f g = g refl
+
+  -- the same read
+  pub vertex-twin : (l l′ : VertexLink) {torn torn′ : A} {f f′ : ℕ → ℕ → A} → l ≡ l′ → Twin P torn torn′
+      → ((next tag : ℕ) → l ≡ vertex.At next tag → Twin P (f next tag) (f′ next tag)) → Twin P (at-vertex l torn f) (at-vertex l′ torn′ f′)
+  vertex-twin l l′ {torn} {torn′} {f} {f′} e t g = rw (← e) (by l refl)
+    where
+      by : (r : VertexLink) → l ≡ r → Twin P (at-vertex r torn f) (at-vertex r torn′ f′)
+      by (vertex.At next tag) q = g next tag q
+      by vertex.Torn q = t
+
+  pub edge-twin : (l l′ : EdgeLink) {torn torn′ : A} {f f′ : ℕ → ℕ → A} → l ≡ l′ → Twin P torn torn′
+      → ((next tag : ℕ) → l ≡ edge.At next tag → Twin P (f next tag) (f′ next tag)) → Twin P (at-edge l torn f) (at-edge l′ torn′ f′)
+  edge-twin l l′ {torn} {torn′} {f} {f′} e t g = rw (← e) (by l refl)
+    where
+      by : (r : EdgeLink) → l ≡ r → Twin P (at-edge r torn f) (at-edge r torn′ f′)
+      by (edge.At next tag) q = g next tag q
+      by edge.Torn q = t
+
+  pub target-twin : (l l′ : Target) {torn torn′ : A} {f f′ : ℕ → A} → l ≡ l′ → Twin P torn torn′
+      → ((n : ℕ) → l ≡ target.At n → Twin P (f n) (f′ n)) → Twin P (at-target l torn f) (at-target l′ torn′ f′)
+  target-twin l l′ {torn} {torn′} {f} {f′} e t g = rw (← e) (by l refl)
+    where
+      by : (r : Target) → l ≡ r → Twin P (at-target r torn f) (at-target r torn′ f′)
+      by (target.At n) q = g n q
+      by target.Torn q = t
+
+  pub both-twin : (l l′ : BothSeen) {torn dead standing torn′ dead′ standing′ : A} → l ≡ l′ → Twin P torn torn′ → Twin P dead dead′
+      → Twin P standing standing′ → Twin P (at-both l torn dead standing) (at-both l′ torn′ dead′ standing′)
+  both-twin l l′ {torn} {dead} {standing} {torn′} {dead′} {standing′} e t d s = rw (← e) (by l)
+    where
+      by : (r : BothSeen) → Twin P (at-both r torn dead standing) (at-both r torn′ dead′ standing′)
+      by both.Torn = t
+      by both.Dead = d
+      by both.Standing = s

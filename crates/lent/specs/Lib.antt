@@ -1,0 +1,3 @@
+-- A host's runs on lent memory, and that they are the runs of the definitions.
+pub mod Hosting
+pub mod SameRuns
