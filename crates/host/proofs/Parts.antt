@@ -1,0 +1,69 @@
+-- What the walks speak of: the machine values of a table, the parts of what a call gives, the slices that are lent, and the numbers on the way to a record. Assumes nothing.
+use Prim.Native.Nat.{ℕ, _+_, _*_, _<_, _^_}
+use mathlib.Core.List.{List, [], _∷_}
+use mathlib.Core.Path.{_≡_, refl, sym}
+use native.Mathlib.Omega.{arith}
+use lib.IntN.{ℤ}
+use lib.ListN.{length}
+use mir.Syntax.{named}
+use mir.Val.{Val}
+use base.Fml.{Lft, Fml}
+use prog.Memory.{size}
+use denote.Builtin.{u32, i32}
+use denote.Index.{place-is}
+use denote.Laws.{Is}
+use denote.Memory.{lone}
+use denote.Ref.{RefT}
+use denote.Slice.{slice-vals, MutSlice}
+use denote.Struct.Laws as LL
+use Rattle.host.specs.Kept.{slot, table-size}
+use Rattle.host.specs.declared.kept.Kept.{Kept}
+use Rattle.host.specs.declared.one.Moved.{Moved}
+use Rattle.host.proofs.kept.Kept as K
+use Rattle.host.proofs.kept.Kept.Laws as K′
+use Rattle.host.proofs.kept.Record as R
+use Rattle.host.proofs.one.Moved as S
+use Rattle.host.proofs.one.Moved.Laws as S′
+use Rattle.host.proofs.Cells.{record-place, record-vals}
+
+abbrev pub Keys : Type 0
+Keys = RefT (List ℤ)
+
+abbrev pub Words : Type 0
+Words = RefT (List ℕ)
+
+-- its one machine value
+abbrev pub kept-vals : Kept → List Val
+kept-vals = LL.vals K.the-type K′.the-laws
+
+-- what the lent slices own
+abbrev pub own-keys : Lft → Keys → Fml
+own-keys κ x = MutSlice (named 0) κ i32 .own x (slice-vals x)
+
+abbrev pub own-words : Lft → Words → Fml
+own-words κ x = MutSlice (named 1) κ u32 .own x (slice-vals x)
+
+-- each last list is as long as the list lent
+abbrev pub Long : Keys → Words → List ℤ → List ℕ → Type 0
+Long keys words zk zw = (length zk ≡ length (keys .now)) × (length zw ≡ length (words .now))
+
+-- the record's number, and how far it lies from the first
+pub slot-below : (n : ℕ) → slot n < 8
+slot-below n = omega arith
+
+pub far : (n : ℕ) → slot n * 312 < 2 ^ 64
+far n = omega (arith, slot-below n)
+
+pub at-record : (o i : ℕ) → i * 312 + (o + 8) ≡ record-place o i
+at-record o i = sym (place-is 312 (o + 8) i)
+
+-- the stated size is that of the table's layout
+pub table-sized : table-size ≡ size (lone (K.the-row .mir))
+table-sized = refl
+
+-- the parts of what a call gives
+pub is-kept : (x : Moved) (v : Val) → Is S.the-row x (v ∷ []) → Is R.the-row (x .kept) (record-vals (x .kept))
+is-kept x v is = LL.owed S.the-type S′.the-laws x (v ∷ []) is .0
+
+pub told-fits : (x : Moved) (v : Val) → Is S.the-row x (v ∷ []) → x .told < 2 ^ 64
+told-fits x v is = LL.owed S.the-type S′.the-laws x (v ∷ []) is .1 .0 .1

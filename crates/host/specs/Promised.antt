@@ -1,0 +1,65 @@
+-- What the host's calls promise, for any memory, table and arguments: the number told, and what is left in the lent memory.
+use Prim.Native.Nat.{ℕ}
+use mathlib.Core.Bool.{Bool, true, false}
+use mathlib.Core.List.{List}
+use mathlib.Core.Path.{_≡_}
+use lib.IntN.{ℤ}
+use Rattle.catalogue.specs.Tests.{pick}
+use Rattle.catalogue.specs.Workers.{idle-table}
+use Rattle.catalogue.specs.Calls.{count-fits}
+use Rattle.catalogue.specs.declared.answers.Answer.{Answer}
+use Rattle.catalogue.specs.declared.answers.Answer.the-variants as answer
+use Rattle.catalogue.specs.declared.answers.Answer.the-variants.{Going, Reply}
+use Rattle.catalogue.specs.declared.answers.Outcome.{Outcome}
+use Rattle.catalogue.specs.declared.answers.Made.the-variants.{Done, Refused}
+use Rattle.catalogue.specs.declared.answers.Refusal.the-variants.{Worker}
+use Rattle.catalogue.specs.Lent.{Memory, lent-fresh, lent-take-up, lent-step, lent-listing}
+use Rattle.host.specs.Kept.{table-in, record-at, put-record, slot}
+use Rattle.host.specs.Packing.{packed-answer, packed-listed, packed-made}
+use Rattle.host.specs.declared.kept.Kept.{Kept}
+use Rattle.host.specs.declared.kept.Record.{Record}
+use Rattle.host.specs.declared.one.Moved.{Moved}
+
+abbrev pub refuses : Answer → Bool
+refuses (Going met) = false
+refuses (Reply number) = false
+refuses (answer.Refused why) = true
+
+-- what a call leaves of the table t: memory that stands for the outcome's table, and to the last bit what it was, if it refuses
+abbrev pub Leaves : Kept → Outcome → Kept → Type 0
+Leaves t o t′ = (table-in t′ ≡ o .table) × (refuses (o .answer) ≡ true → t′ ≡ t)
+
+-- a step
+abbrev pub Steps : Memory → Kept → ℕ → ℕ → Kept → List ℤ → List ℕ → Type 0
+Steps m t w r t′ keys words =
+    let after = lent-step m (table-in t) w in
+    (r ≡ packed-answer (after .outcome .answer)) × (Leaves t (after .outcome) t′ × ((keys ≡ after .memory .keys) × (words ≡ after .memory .words)))
+
+-- taking up only reads the catalogue
+abbrev pub Takes-up : Memory → Kept → ℕ → ℕ → ℤ → ℤ → ℕ → Kept → Type 0
+Takes-up m t w code k l r t′ =
+    let after = lent-take-up m (table-in t) w code k l in
+    (r ≡ packed-answer (after .outcome .answer)) × Leaves t (after .outcome) t′
+
+-- The same of the one record that the call reads and stores back, in whatever table it stands.
+abbrev pub In-any-table : ℕ → ℕ → Record → (Kept → Type 0) → Type 0
+In-any-table count w r P = (t : Kept) → t .count ≡ count → record-at t (slot w) ≡ r → P t
+
+abbrev pub Steps-one : Memory → ℕ → ℕ → Record → Moved → List ℤ → List ℕ → Type 0
+Steps-one m count w r x keys words = In-any-table count w r (λ t. Steps m t w (x .told) (put-record t (slot w) (x .kept)) keys words)
+
+abbrev pub Takes-up-one : Memory → ℕ → ℕ → Record → ℕ → ℤ → ℤ → Moved → Type 0
+Takes-up-one m count w r code k l x = In-any-table count w r (λ t. Takes-up m t w code k l (x .told) (put-record t (slot w) (x .kept)))
+
+abbrev pub Makes-fresh : Memory → ℕ → List ℤ → List ℕ → Type 0
+Makes-fresh m r keys words =
+    (r ≡ packed-made (lent-fresh m .answer)) × ((keys ≡ lent-fresh m .memory .keys) × (words ≡ lent-fresh m .memory .words))
+
+abbrev pub Lists : Memory → List ℕ → ℕ → List ℕ → Type 0
+Lists m output r output′ = (r ≡ packed-listed (lent-listing m output .answer)) × (output′ ≡ lent-listing m output .output)
+
+-- a table of idle workers: 21 is a count that is not 1 to 8
+abbrev pub Makes-table : Kept → ℕ → ℕ → Kept → Type 0
+Makes-table t count r t′ =
+    (r ≡ packed-made (pick (count-fits count) Done (Refused Worker)))
+    × ((table-in t′ ≡ pick (count-fits count) (idle-table count) (table-in t)) × (count-fits count ≡ false → t′ ≡ t))

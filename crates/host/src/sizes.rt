@@ -1,0 +1,36 @@
+// How much memory a host lends.
+ghost use mathlib.Core.Path.{_≡_};
+ghost use Rattle.catalogue.specs.Lent.{keys-size, words-size, output-size};
+ghost use Rattle.host.specs.Kept.{table-size};
+
+// The keys of a catalogue, in numbers of 32 bits.
+#[no_mangle]
+pub extern "C" fn pallaymi_keys_size() -> usize
+    ensures { λ r. ⌜ r ≡ keys-size ⌝ }
+{
+    2304
+}
+
+// The words of a catalogue, in numbers of 32 bits.
+#[no_mangle]
+pub extern "C" fn pallaymi_words_size() -> usize
+    ensures { λ r. ⌜ r ≡ words-size ⌝ }
+{
+    4610
+}
+
+// An output, in bytes: at least so many.
+#[no_mangle]
+pub extern "C" fn pallaymi_output_size() -> usize
+    ensures { λ r. ⌜ r ≡ output-size ⌝ }
+{
+    65536
+}
+
+// A table, in bytes.
+#[no_mangle]
+pub extern "C" fn pallaymi_table_size() -> usize
+    ensures { λ r. ⌜ r ≡ table-size ⌝ }
+{
+    2504
+}

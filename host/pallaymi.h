@@ -1,0 +1,68 @@
+/* The calls of the catalogue of series. Link with libhost.a, which `rt staticlib host` writes.
+ *
+ * The library keeps nothing of its own: the host lends all memory, and no two calls that are lent the same memory may run at once. Every call
+ * ends and stays within what it is lent, whatever that holds; the pointers must be to as many numbers or bytes as is said here.
+ *
+ * A call tells one number: NUMBER + 256 * MORE, see pallaymi_number and pallaymi_more. NUMBER is 0 (done, or going on), a reply (1 to 9) or a
+ * refusal (20 to 26). A refusal changes nothing, and its MORE is 0.
+ *
+ *    1 done, or present                                 20 lent memory of another size than the stated one, or too little output
+ *    2 the series is there already, or is not there     21 no such worker, or a count of workers that is not 1 to 8
+ *    3 a series is not present                          22 the worker is busy
+ *    4 the derivation is there already                  23 the worker is idle
+ *    5 the derivation is not present                    24 no call has this code
+ *    6 the derivation would close a loop                25 a key of the request is reserved
+ *    7 the same derivation is on trial                  26 memory or a record that no run of the catalogue can have made
+ *    8 a series or the derivation is not present
+ *    9 no room
+ */
+#ifndef PALLAYMI_H
+#define PALLAYMI_H
+
+#include <stddef.h>
+#include <stdint.h>
+
+/* A table of up to eight workers: memory that the library fills and the host only keeps. It holds no pointer, and may be copied. */
+typedef struct {
+    uint64_t memory[313];
+} pallaymi_workers;
+
+/* The codes of requests. k is a series; l is the series that is derived from it, and is not used by the first three. */
+enum pallaymi_code {
+    PALLAYMI_ADD_SERIES = 1,
+    PALLAYMI_REMOVE_SERIES = 2,
+    PALLAYMI_HAS_SERIES = 3,
+    PALLAYMI_ADD_DERIVATION = 4,
+    PALLAYMI_REMOVE_DERIVATION = 5,
+    PALLAYMI_HAS_DERIVATION = 6
+};
+
+/* The sizes: how many numbers of 32 bits the keys and the words of a catalogue are, how many bytes an output has at least, and how many bytes a
+ * table is. */
+size_t pallaymi_keys_size(void);
+size_t pallaymi_words_size(void);
+size_t pallaymi_output_size(void);
+size_t pallaymi_table_size(void);
+
+/* Makes the lent memory an empty catalogue. Tells 0 or 20. */
+uint64_t pallaymi_fresh(int32_t *keys, size_t keys_count, uint32_t *words, size_t words_count);
+
+/* Makes the table one of `count` idle workers, numbered from 0. Tells 0 or 21. */
+uint64_t pallaymi_table(pallaymi_workers *table, uint32_t count);
+
+/* An idle worker takes up a request. Tells 0 or 20, 21, 22, 24, 25, 26. */
+uint64_t pallaymi_take_up(const int32_t *keys, size_t keys_count, const uint32_t *words, size_t words_count, pallaymi_workers *table,
+                          uint32_t worker, uint32_t code, int32_t k, int32_t l);
+
+/* A busy worker makes one step. Tells 0 while it goes on, with MORE the number of series that its trial has met; a reply, with which the worker is
+ * idle again; or 20, 21, 23, 26. */
+uint64_t pallaymi_step(int32_t *keys, size_t keys_count, uint32_t *words, size_t words_count, pallaymi_workers *table, uint32_t worker);
+
+/* Writes the text of the catalogue at the start of the output. Tells 0, with MORE the number of bytes written, or 20, 26. */
+uint64_t pallaymi_listing(const int32_t *keys, size_t keys_count, const uint32_t *words, size_t words_count, uint8_t *output,
+                          size_t output_count);
+
+static inline uint32_t pallaymi_number(uint64_t told) { return (uint32_t)(told % 256); }
+static inline uint64_t pallaymi_more(uint64_t told) { return told / 256; }
+
+#endif
