@@ -10,7 +10,7 @@ use Rattle.catalogue.specs.Calls.{take-up, step}
 use Rattle.catalogue.specs.Runs.{Choice, takes, steps, sweeps, Moment}
 use Rattle.catalogue.specs.declared.answers.Answer.{Answer}
 use Rattle.catalogue.specs.declared.answers.Answer.the-variants.{Going, Reply, Refused}
-use Rattle.row.specs.Row.{Call, History}
+use Rattle.row.specs.Rows.Row.{Call, History}
 use Rattle.promises.specs.Moments.{moment, chosen}
 use Rattle.promises.specs.Graphs.{Graph, live}
 use Rattle.promises.specs.Alone.{Ask, ask-of}

@@ -15,7 +15,7 @@ use Rattle.catalogue.specs.Sweep.{any-busy, sweep-into}
 use Rattle.catalogue.specs.declared.answers.Refusal.the-variants.{Torn}
 use Rattle.catalogue.specs.declared.answers.Answer.the-variants as answer
 use Rattle.catalogue.specs.declared.answers.Made.the-variants as made
-use Rattle.row.specs.Row.{Entry, Explains}
+use Rattle.row.specs.Rows.Row.{Entry, Explains}
 use Rattle.promises.specs.Moments.{Keyed, Given, at, moment, place-of}
 use Rattle.promises.specs.Graphs.{Graph, empty, live, Walk}
 use Rattle.promises.specs.Alone.{Ask, Alone}

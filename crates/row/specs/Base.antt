@@ -1,4 +1,4 @@
--- Function update, deciders and the order of ℤ (copied from the prototype). Assumes nothing.
+-- Laws of function update, of tests on numbers and of the order of ℤ. Assumes nothing.
 use Prim.Native.Nat.{ℕ, _≤_, _<_}
 use mathlib.Core.Bool.{Bool, true, false}
 use mathlib.Core.Path.{_≡_, refl, ap}
@@ -48,10 +48,6 @@ lt-or a b = go (ltb a b) refl
     go true e = inl (ltb-true a b e)
     go false e = inr (ltb-false a b e)
 
--- an absurdity found by `cc`: `clash (cc)` closes any goal from x ≡ c and x ≡ d with two constructors c and d
-pub clash : {A : Type 0} → _≡_ {A = ℕ} 0 1 → A
-clash e = absurd (omega arith)
-
 -- ---- the order of ℤ: transitivity (irreflexivity is `<ℤ-irrefl`)
 
 trans′ : (a b c : ℤ) → T (ltZ a b) → T (ltZ b c) → T (ltZ a c)
@@ -66,7 +62,7 @@ trans′ (negsuc a) (negsuc b) (negsuc c) h k = omega (arith, ltb→lt, lt→ltb
 pub <ℤ-trans : {a b c : ℤ} → a <ℤ b → b <ℤ c → a <ℤ c
 <ℤ-trans {a} {b} {c} h k = record { lt = trans′ a b c (h .lt) (k .lt) }
 
--- a test of the code, `ltZ a b`, and the order
+-- the test `ltZ a b` says what the order says
 pub ltZ-true : (a b : ℤ) → ltZ a b ≡ true → a <ℤ b
 ltZ-true a b e = ltZ-yes (rw e tt)
 

@@ -1,28 +1,18 @@
+-- A machine of plain lists, and what each event of its runs is, so that all answered calls stand in one row. Its world is the vertex list and
+-- the edge lists as functions on node numbers; beside each edge stands its owner, a ghost that no step reads. The crate `promises` shows
+-- that a catalogue makes the same runs, and takes the row and the invariants from here.
+-- laws of updates, of the order of keys, of tests
 pub mod Base
-pub mod Row
-pub mod Assemble
-pub mod Links
-pub mod Hindsight
-pub mod Store
-pub mod Insert
-pub mod Unlink
-pub mod Mark
-pub mod Kept
+pub mod Tests
+-- the row, for any kind of call: what it is, and how it is put together
+pub mod Rows
+-- the lists, how they may change, and what a walker may say of the past (hindsight)
+pub mod Lists
+-- the machine: worlds, steps, runs, histories
 pub mod Machine
-pub mod LiveSet
-pub mod Does
-pub mod Trace
-pub mod Edges
-pub mod EdgeInsert
-pub mod EdgeUnlink
-pub mod EdgeKept
-pub mod World
-pub mod Older
-pub mod Graph
-pub mod Deeds
-pub mod Doing
-pub mod Tried
-pub mod Course
-pub mod Happen
-pub mod Fair
-pub mod Reading
+-- the live graph, and why it has no loop
+pub mod Graphs
+-- what a step does to a good world
+pub mod Steps
+-- the invariants of a run, and what each of its events is
+pub mod Runs

@@ -1,1 +1,2 @@
-// The proof of demand 3 on a machine of plain lists: see specs/.
+// A machine of plain lists: its world, the steps of its workers, its invariants, hindsight, and the row of the answered calls. There is nothing to run here;
+// specs/Lib.antt names the layers, and the crate `promises` rests on them.

@@ -13,10 +13,14 @@ use Rattle.catalogue.specs.Live.{edges-of}
 use Rattle.catalogue.specs.Runs.{steps, Moment, choose, after}
 use Rattle.catalogue.specs.Workers.{worker-at}
 use Rattle.catalogue.specs.declared.answers.Answer.the-variants.{Reply}
-use Rattle.row.specs.Base.{upd-at, upd-other, same?, clash}
-use Rattle.row.specs.World
-use Rattle.row.specs.World.{World, Hunt, hunt-from, Trial, resting, move, Conf, act}
-use Rattle.row.specs.Deeds.{Ok6}
+use Rattle.catalogue.proofs.Picks.{clash}
+use Rattle.row.specs.Base.{upd-at, upd-other, same?}
+use Rattle.row.specs.Machine.Runs
+use Rattle.row.specs.Machine.World
+use Rattle.row.specs.Machine.World.{World, Hunt, hunt-from, Trial}
+use Rattle.row.specs.Machine.Moves.{move}
+use Rattle.row.specs.Machine.Runs.{resting, Conf, act}
+use Rattle.row.specs.Steps.Spots.{Ok}
 use Rattle.promises.specs.Moments.{at}
 use Rattle.promises.specs.Bounds.{step-replies, Unanswered, also, taken-by, edges-taken, TrialAlone}
 use Rattle.promises.proofs.Showing.Shows.{Stands, Hunted}
@@ -57,7 +61,7 @@ module _ (workers : ℕ) (most : workers ≤ 8) (w : ℕ) (low : w < workers) (k
         let s : Stands (W .v .used) (worker-at (m .table) w) (Trial k l u v e (t .hunt)) = rw (t .stands) at (t .held .shown w (omega arith) .stands) in
         s .1
 
-    ok : Ok6 W (Trial k l u v e (t .hunt))
+    ok : Ok W (Trial k l u v e (t .hunt))
     ok = rw (t .stands) at (t .held .fine .ok w)
 
     acts : Own-step workers m (t .conf) w
@@ -76,7 +80,7 @@ module _ (workers : ℕ) (most : workers ≤ 8) (w : ℕ) (low : w < workers) (k
         (hunted .searched) (ok .2 .place) (t .tally) (answers ∙ silent acts q) in
         let n = ap (move W) (t .stands) ∙ c .is in
         record {
-          conf = act (t .conf) (World.steps w);
+          conf = act (t .conf) (Runs.steps w);
           held = acts .held;
           hunt = c .hunt;
           stands = upd-at (t .conf .at) w (move W (t .conf .at w) .spot) w refl ∙ ap (λ (o : World.Next). o .spot) n;

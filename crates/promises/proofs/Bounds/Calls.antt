@@ -8,10 +8,12 @@ use Rattle.catalogue.specs.Calls.{After}
 use Rattle.catalogue.specs.Runs.{Moment}
 use Rattle.catalogue.specs.Workers.{bare}
 use Rattle.catalogue.specs.Steps.Places.{first-place}
-use Rattle.row.specs.Base.{upd-at, clash}
-use Rattle.row.specs.Machine.{addV, remV, conV}
-use Rattle.row.specs.World.{World, Ask, vert, addE, remE, conE, Spot, Conf, starts}
-use Rattle.row.specs.Graph.{WGood}
+use Rattle.catalogue.proofs.Picks.{clash}
+use Rattle.row.specs.Base.{upd-at}
+use Rattle.row.specs.Machine.Vertices.{addV, remV, conV}
+use Rattle.row.specs.Machine.World.{World, Ask, vert, addE, remE, conE, Spot}
+use Rattle.row.specs.Machine.Runs.{Conf, starts}
+use Rattle.row.specs.Graphs.Good.{WGood}
 use Rattle.promises.specs.Moments.{at}
 use Rattle.promises.specs.Histories.{accepted}
 use Rattle.promises.specs.Bounds.{Quiet-most, Call-most, ConVBound, ConEBound}

@@ -7,9 +7,9 @@ use native.Mathlib.Omega.{arith}
 use lib.ListN.{length}
 use lib.Signed.{_<ℤ_}
 use Rattle.catalogue.specs.Live.{walk}
-use Rattle.row.specs.Edges.{at, Mine}
-use Rattle.row.specs.World.{World, Opened, closed, opened}
-use Rattle.row.specs.Graph.{WGood}
+use Rattle.row.specs.Lists.Edges.{at, Mine}
+use Rattle.row.specs.Machine.World.{World, Opened, closed, opened}
+use Rattle.row.specs.Graphs.Good.{WGood}
 use Rattle.promises.proofs.Lists.Walked.{at-end, further, spare, walk-spare}
 
 -- how long a list is from an edge on

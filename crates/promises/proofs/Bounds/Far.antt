@@ -8,9 +8,9 @@ use lib.IntN.{ℤ}
 use lib.Signed.{ltZ}
 use Rattle.catalogue.specs.Tests.{pick}
 use Rattle.catalogue.specs.Workers.{count}
-use Rattle.row.specs.Machine.{Idle, AddV, RemV, ConV}
-use Rattle.row.specs.World.{World, adds, rems, cons, Opened, closed, opened, Spot, Rest, Vert, FindU, FindV, LookE, ConE, Trial}
-use Rattle.row.specs.LiveSet.{and-true}
+use Rattle.row.specs.Machine.Vertices.{Idle, AddV, RemV, ConV}
+use Rattle.row.specs.Machine.World.{World, adds, rems, cons, Opened, closed, opened, Spot, Rest, Vert, FindU, FindV, LookE, ConE, Trial}
+use Rattle.row.specs.Tests.{and-true}
 use Rattle.promises.proofs.Bounds.Counting.{count-le}
 
 -- ---- what is passed

@@ -4,10 +4,11 @@ use mathlib.Core.Bool.{Bool, false}
 use native.Mathlib.Omega.{arith}
 use Rattle.catalogue.specs.Workers.{count}
 use Rattle.catalogue.specs.declared.workers.Worker.{Worker}
-use Rattle.row.specs.Machine.{Idle, AddV, RemV, ConV}
-use Rattle.row.specs.World.{World, adds, rems, cons, Opened, closed, opened, Spot, Rest, Vert, FindU, FindV, LookE, ConE, Trial, move}
-use Rattle.row.specs.Deeds.{Ok6}
-use Rattle.row.specs.Graph.{WGood}
+use Rattle.row.specs.Machine.Vertices.{Idle, AddV, RemV, ConV}
+use Rattle.row.specs.Machine.World.{World, adds, rems, cons, Opened, closed, opened, Spot, Rest, Vert, FindU, FindV, LookE, ConE, Trial}
+use Rattle.row.specs.Machine.Moves.{move}
+use Rattle.row.specs.Steps.Spots.{Ok}
+use Rattle.row.specs.Graphs.Good.{WGood}
 use Rattle.promises.proofs.Showing.Shows.{Stands}
 use Rattle.promises.proofs.Bounds.Far.{over, behind, far-in, far, limit, entered, vertices-most, edges-most}
 use Rattle.promises.proofs.Bounds.Looking.{OnlyFurther, con-v-further, find-u-further, find-v-further, con-e-further}
@@ -34,7 +35,7 @@ module _ (W : World) (few : W .v .used ≤ 256) (few-edges : W .e .used ≤ 2048
   far-most (ConE k l u v c) p h = omega (arith, edges-most W few-edges (behind (λ x. false) u (W .e .key c)))
   far-most (Trial k l u v e z) p h = in-most (z .taken) (z .stand) (taken-most _ _ _ _ (p .1 .searched))
 
-  pub goes-further : WGood W → (s : Spot) → Ok6 W s → Stands (W .v .used) w s → entered s → 1 ≤ limit s → OnlyFurther W s (move W s)
+  pub goes-further : WGood W → (s : Spot) → Ok W s → Stands (W .v .used) w s → entered s → 1 ≤ limit s → OnlyFurther W s (move W s)
   goes-further g Rest o p i h = absurd (omega arith)
   goes-further g (Vert Idle) o p i h = absurd (omega arith)
   goes-further g (Vert (AddV k q c)) o p i h = absurd (omega arith)

@@ -13,12 +13,15 @@ use Rattle.catalogue.specs.Workers.{blank, worker-at, busy-at, busy}
 use Rattle.catalogue.specs.declared.workers.Place.the-variants as place
 use Rattle.catalogue.specs.declared.workers.Prev.{Prev}
 use Rattle.catalogue.specs.declared.workers.Worker.{Worker}
-use Rattle.row.specs.Base.{upd-at, lt-or, clash}
-use Rattle.row.specs.Machine.{Idle, AddV, RemV, ConV}
-use Rattle.row.specs.Edges
-use Rattle.row.specs.Edges.{einsert}
-use Rattle.row.specs.World
-use Rattle.row.specs.World.{World, with-e, adds, rems, cons, Opened, closed, opened, hunt-from, Spot, Rest, Vert, FindU, FindV, LookE, ConE, Trial, goes, says, is-added, ESeen, e-dead, e-again, e-passes, e-marks, e-onward, e-settle, elook, look-e, resting, move, Conf, act}
+use Rattle.catalogue.proofs.Picks.{clash}
+use Rattle.row.specs.Base.{upd-at, lt-or}
+use Rattle.row.specs.Machine.Vertices.{Idle, AddV, RemV, ConV}
+use Rattle.row.specs.Lists.Edges
+use Rattle.row.specs.Lists.Edges.{einsert}
+use Rattle.row.specs.Machine.Runs
+use Rattle.row.specs.Machine.World.{World, with-e, adds, rems, cons, Opened, closed, opened, hunt-from, Spot, Rest, Vert, FindU, FindV, LookE, ConE, Trial, goes, says, is-added}
+use Rattle.row.specs.Machine.Moves.{ESeen, e-dead, e-again, e-passes, e-marks, e-onward, e-settle, elook, look-e, move}
+use Rattle.row.specs.Machine.Runs.{resting, Conf, act}
 use Rattle.promises.specs.Moments.{at}
 use Rattle.promises.specs.Bounds.{Inserts, TrialBound}
 use Rattle.promises.proofs.Showing.Shows.{Stands, trial-place}
@@ -109,7 +112,7 @@ module _ (workers w : ℕ) (most : workers ≤ 8) (m : Moment) (X : Conf) (h : H
       let low : w < workers = below b in
       let s = sought (i .k) (i .l) (i .u) (i .v) (X .world .v .used) (worker-at (m .table) w) (i .p) (i .c) (i .before) (X .at w) (h .shown w (omega arith) .stands) in
       let o = own-step workers m X h most w low b in
-      let Y : Conf = act X (World.steps w) in
+      let Y : Conf = act X (Runs.steps w) in
       let from : Spot = LookE true (i .k) (i .l) (i .u) (i .v) (s .before) (s .current) in
       let e : Y .at w ≡ move (X .world) from .spot =
       upd-at (X .at) w (move (X .world) (X .at w) .spot) w refl ∙ ap (λ z. move (X .world) z .spot) (s .looks) in

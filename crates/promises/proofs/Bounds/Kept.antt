@@ -7,13 +7,13 @@ use native.Mathlib.Omega.{arith}
 use borrow.Author.Tests.{leb-true}
 use lib.Dec.{leb}
 use lib.IntN.{ℤ}
-use Rattle.row.specs.Machine.{Idle, AddV, RemV, ConV}
-use Rattle.row.specs.Edges.{at, InList, Mine}
-use Rattle.row.specs.World.{World, Opened, closed, opened, Spot, Rest, Vert, FindU, FindV, LookE, ConE, Trial}
-use Rattle.row.specs.LiveSet.{and-true}
-use Rattle.row.specs.Graph.{WGood}
-use Rattle.row.specs.Deeds.{StandOk, Ok6}
-use Rattle.row.specs.Course.{Both}
+use Rattle.row.specs.Machine.Vertices.{Idle, AddV, RemV, ConV}
+use Rattle.row.specs.Lists.Edges.{at, InList, Mine}
+use Rattle.row.specs.Machine.World.{World, Opened, closed, opened, Spot, Rest, Vert, FindU, FindV, LookE, ConE, Trial}
+use Rattle.row.specs.Tests.{and-true}
+use Rattle.row.specs.Graphs.Good.{WGood}
+use Rattle.row.specs.Steps.Spots.{StandOk, Ok}
+use Rattle.row.specs.Runs.Course.{Both}
 use Rattle.promises.proofs.Bounds.Counting.{count-le}
 use Rattle.promises.proofs.Bounds.Far.{below, vertices-passed, among, edges-that, over, behind, far-in, far}
 
@@ -63,7 +63,7 @@ module _ (W X : World) (b : Both W X) (g : WGood W) (g′ : WGood X) where
   in-kept taken closed p = omega (arith, edges-kept (over taken))
   in-kept taken (opened x c) p = omega (arith, passed-kept taken x c p)
 
-  pub far-kept : (s : Spot) → Ok6 W s → far W s ≤ far X s
+  pub far-kept : (s : Spot) → Ok W s → far W s ≤ far X s
   far-kept Rest o = omega arith
   far-kept (Vert Idle) o = omega arith
   far-kept (Vert (AddV k p c)) o = omega arith

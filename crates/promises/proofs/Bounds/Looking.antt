@@ -10,12 +10,14 @@ use lib.IntN.{ℤ}
 use lib.Signed.{ltZ, <ℤ-irrefl}
 use Rattle.catalogue.specs.Tests.{eqZ}
 use Rattle.catalogue.specs.Numbers.{greatest}
-use Rattle.row.specs.Base.{clash, <ℤ-trans, ltZ-true}
-use Rattle.row.specs.Machine.{ConV, going, replies}
-use Rattle.row.specs.Edges.{at, Mine}
-use Rattle.row.specs.World.{World, cons, Spot, Vert, FindU, FindV, ConE, Next, goes, says, vmove, lower, found, missing, find-u, find-v, is-added, move}
-use Rattle.row.specs.Does.{Legal}
-use Rattle.row.specs.Graph.{WGood}
+use Rattle.catalogue.proofs.Picks.{clash}
+use Rattle.row.specs.Base.{<ℤ-trans, ltZ-true}
+use Rattle.row.specs.Machine.Vertices.{ConV, going, replies}
+use Rattle.row.specs.Lists.Edges.{at, Mine}
+use Rattle.row.specs.Machine.World.{World, cons, Spot, Vert, FindU, FindV, ConE, Next, goes, says, is-added}
+use Rattle.row.specs.Machine.Moves.{vmove, lower, found, missing, find-u, find-v, move}
+use Rattle.row.specs.Steps.VertexDeeds.{Legal}
+use Rattle.row.specs.Graphs.Good.{WGood}
 use Rattle.promises.proofs.Showing.Tail.{no-tail, below-tail}
 use Rattle.promises.proofs.Bounds.Far.{vertices-passed, far, limit, entered, vertices-most}
 use Rattle.promises.proofs.Bounds.Passing.{vertex-passed, edge-passed}

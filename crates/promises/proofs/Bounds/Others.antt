@@ -8,12 +8,13 @@ use Rattle.catalogue.specs.Calls.{After, count-fits, worker-fits, take-up, step
 use Rattle.catalogue.specs.Runs.{Choice, takes, steps, sweeps, Moment, choose}
 use Rattle.catalogue.specs.Sweep.{After-sweep, sweep-into, any-busy}
 use Rattle.catalogue.specs.Workers.{busy}
-use Rattle.catalogue.proofs.Picks.{pick-both}
-use Rattle.row.specs.Base.{upd-other, clash}
-use Rattle.row.specs.World
-use Rattle.row.specs.World.{World, Conf, act}
-use Rattle.row.specs.Course.{Both, act-both}
-use Rattle.row.specs.Deeds.{deed-rest}
+use Rattle.catalogue.proofs.Picks.{pick-both, clash}
+use Rattle.row.specs.Base.{upd-other}
+use Rattle.row.specs.Machine.Runs
+use Rattle.row.specs.Machine.World.{World}
+use Rattle.row.specs.Machine.Runs.{Conf, act}
+use Rattle.row.specs.Runs.Course.{Both, act-both}
+use Rattle.row.specs.Steps.Writes.{deed-rest}
 use Rattle.promises.specs.Moments.{Key, Keyed}
 use Rattle.promises.specs.Bounds.{lets}
 use Rattle.promises.proofs.Runs.Held.{Held}
@@ -47,10 +48,10 @@ module _ (workers : ℕ) (m : Moment) (X : Conf) (h : Held workers m X) (most : 
       let low = in-table workers m X h most v e in
       pick-both after-call (busy (m .table) v) _ _
       (λ b. subst after-call (step-is workers m X h most v low b) (record {
-        conf = act X (World.steps v);
+        conf = act X (Runs.steps v);
         held = own-step workers m X h most v low b .held;
         same = upd-other (X .at) v _ w n;
-        both = act-both X (h .fine) (World.steps v) (λ W z. clash (cc));
+        both = act-both X (h .fine) (Runs.steps v) (λ W z. clash (cc));
       }))
       (λ b. unchanged))
       (λ e. unchanged)

@@ -14,10 +14,12 @@ use Rattle.catalogue.specs.Steps.Decide.{decide, record-after, write-of}
 use Rattle.catalogue.specs.declared.answers.Answer.{Answer}
 use Rattle.catalogue.specs.declared.answers.Answer.the-variants as answer
 use Rattle.catalogue.specs.declared.workers.Worker.{Worker}
-use Rattle.row.specs.Base.{clash}
-use Rattle.row.specs.World
-use Rattle.row.specs.World.{World, move, Conf, act}
-use Rattle.row.specs.Course.{act-fine6}
+use Rattle.catalogue.proofs.Picks.{clash}
+use Rattle.row.specs.Machine.Runs
+use Rattle.row.specs.Machine.World.{World}
+use Rattle.row.specs.Machine.Moves.{move}
+use Rattle.row.specs.Machine.Runs.{Conf, act}
+use Rattle.row.specs.Runs.Course.{act-fine}
 use Rattle.promises.specs.Bounds.{is-reply, step-replies}
 use Rattle.promises.proofs.Showing.Tests.{second}
 use Rattle.promises.proofs.Steps.Follow.{follow}
@@ -32,7 +34,7 @@ no-reply (answer.Refused r) e = refl
 
 -- a worker's own step: what is held after it; and it is answered as the machine answers
 pub record Own-step (workers : ℕ) (m : Moment) (X : Conf) (v : ℕ) : Type 0 where
-  pub held : Held workers (choose m (steps v) .moment) (act X (World.steps v))
+  pub held : Held workers (choose m (steps v) .moment) (act X (Runs.steps v))
   pub same-reply : replied (step (m .catalogue) (m .table) v .answer) ≡ move (X .world) (X .at v) .answer
 
 -- where it is not replied to, the machine says nothing
@@ -66,8 +68,8 @@ module _ (workers : ℕ) (m : Moment) (X : Conf) (h : Held workers m X) (most : 
         let e = step-is ∙ ap (perform (m .catalogue) (m .table) v w) (f .decides) ∙ q .leaves in
         record {
           held =
-              subst (λ (a : After). Held workers (record { catalogue = a .catalogue; table = a .table }) (act X (World.steps v))) (sym e)
+              subst (λ (a : After). Held workers (record { catalogue = a .catalogue; table = a .table }) (act X (Runs.steps v))) (sym e)
               (held-with workers m X h v low most (commit (m .catalogue) (write-of d)) (move W (X .at v) .world) (record-after w d) (move W (X .at v) .spot)
-              (f .world) (act-fine6 X (h .fine) (World.steps v) (λ W e g. clash (cc))) (used-up X (h .fine) v) (f .spot));
+              (f .world) (act-fine X (h .fine) (Runs.steps v) (λ W e g. clash (cc))) (used-up X (h .fine) v) (f .spot));
           same-reply = ap (λ (a : After). replied (a .answer)) e ∙ (q .replies ∙ f .reply);
         }

@@ -9,9 +9,9 @@ use lib.Signed.{_<ℤ_, ltZ, <ℤ-irrefl}
 use Rattle.catalogue.specs.Tests.{pick}
 use Rattle.resting.specs.Keys.{risen}
 use Rattle.row.specs.Base.{<ℤ-trans, ltZ-true}
-use Rattle.row.specs.Edges.{InList}
-use Rattle.row.specs.LiveSet.{and-true}
-use Rattle.row.specs.World.{World}
+use Rattle.row.specs.Lists.Edges.{InList}
+use Rattle.row.specs.Tests.{and-true}
+use Rattle.row.specs.Machine.World.{World}
 use Rattle.promises.proofs.Showing.Tests.{never}
 use Rattle.promises.proofs.Bounds.Counting.{count-more}
 use Rattle.promises.proofs.Bounds.Far.{below, vertices-passed, among, edges-that, behind}

@@ -9,9 +9,12 @@ use borrow.Author.Tests.{eqb-true}
 use Rattle.catalogue.specs.Tests.{pick, upd}
 use Rattle.catalogue.specs.Runs.{Choice, takes, steps, sweeps, Moment, choose}
 use Rattle.catalogue.specs.Workers.{worker-at, busy}
-use Rattle.row.specs.Base.{lt-or, clash, upd-at}
-use Rattle.row.specs.World
-use Rattle.row.specs.World.{World, resting, move, Conf, act}
+use Rattle.catalogue.proofs.Picks.{clash}
+use Rattle.row.specs.Base.{lt-or, upd-at}
+use Rattle.row.specs.Machine.Runs
+use Rattle.row.specs.Machine.World.{World}
+use Rattle.row.specs.Machine.Moves.{move}
+use Rattle.row.specs.Machine.Runs.{resting, Conf, act}
 use Rattle.promises.specs.Moments.{All, each, Keyed}
 use Rattle.promises.specs.Bounds.{lets, own-steps, step-replies, Unanswered, also}
 use Rattle.promises.proofs.Showing.Shows.{Stands}
@@ -71,7 +74,7 @@ module _ (workers : ℕ) (most : workers ≤ 8) (w : ℕ) where
         let o = move (X .world) (X .at w) in
         let f = goes-further (X .world) few few-edges (worker-at (m .table) w) (g .held .fine .good) (X .at w) (g .held .fine .ok w) stands (g .enters) (g .some) (silent s q) in
         let e : upd (X .at) w (o .spot) w ≡ o .spot = upd-at (X .at) w (o .spot) w refl in
-        let z = rest (act X (World.steps w)) (record { held = s .held; enters = rw e (f .enters); some = rw (e, f .same) (g .some) }) in
+        let z = rest (act X (Runs.steps w)) (record { held = s .held; enters = rw e (f .enters); some = rw (e, f .same) (g .some) }) in
         omega (arith, rw e at z, f .same, f .rises)
 
     -- another choice

@@ -13,11 +13,11 @@ use Rattle.catalogue.specs.Steps.Places.{code-known, key-refused, first-place}
 use Rattle.catalogue.specs.declared.answers.Answer.the-variants as answer
 use Rattle.catalogue.specs.declared.answers.Refusal.{Refusal}
 use Rattle.catalogue.specs.declared.workers.Worker.{Worker}
-use Rattle.catalogue.proofs.Picks.{pick-both}
-use Rattle.row.specs.Base.{clash}
-use Rattle.row.specs.World
-use Rattle.row.specs.World.{World, Ask, resting, Conf, starts, takable}
-use Rattle.row.specs.Course.{Fine6, act-fine6}
+use Rattle.catalogue.proofs.Picks.{pick-both, clash}
+use Rattle.row.specs.Machine.Runs
+use Rattle.row.specs.Machine.World.{World, Ask}
+use Rattle.row.specs.Machine.Runs.{resting, Conf, starts, takable}
+use Rattle.row.specs.Runs.Course.{Fine, act-fine}
 use Rattle.promises.specs.Moments.{Key}
 use Rattle.promises.proofs.Showing.Shows.{Shown}
 use Rattle.promises.proofs.Runs.Held.{Held, busy-is}
@@ -60,5 +60,5 @@ module _ (workers : ℕ) (m : Moment) (X : Conf) (h : Held workers m X) (most : 
         let z = taken W k l hk hl code e r in
         let rests : resting (X .at v) ≡ true = not-false (resting (X .at v)) (sym (busy-is (W .v .used) (worker-at (m .table) v) (X .at v) (h .shown v (omega arith) .stands)) ∙ b) in
         let free : takable (X .at) v (z .ask) ≡ true = rw (lt-ltb v 8 (omega arith), rests, z .fits) in
-        let f : Fine6 (record { world = W; at = upd (X .at) v (starts W (z .ask)) }) = rw free at (act-fine6 X (h .fine) (World.takes v (z .ask)) (λ W e g. clash (cc))) in
+        let f : Fine (record { world = W; at = upd (X .at) v (starts W (z .ask)) }) = rw free at (act-fine X (h .fine) (Runs.takes v (z .ask)) (λ W e g. clash (cc))) in
         record { ask = z .ask; shown = z .shown; held = held-with workers m X h v low most (m .catalogue) W first (starts W (z .ask)) (h .shows) f (omega arith) (z .shown) }

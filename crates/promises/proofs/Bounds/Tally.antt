@@ -9,11 +9,13 @@ use native.Mathlib.Omega.{arith}
 use borrow.Author.Tests.{eqb-true, eqb-false}
 use lib.Dec.{eqb}
 use lib.IntN.{ℤ}
-use Rattle.row.specs.Base.{upd-at, upd-other, same?, clash}
-use Rattle.row.specs.Edges.{marked, at, Mine, is-marked, retag}
-use Rattle.row.specs.World.{World, with-e, Opened, closed, opened, Hunt, stands-at, meets, took, Trial, Next, goes, says, hunt-open, hunt-take, hunts, move}
-use Rattle.row.specs.Deeds.{Mem, StandOk}
-use Rattle.row.specs.Graph.{WGood}
+use Rattle.catalogue.proofs.Picks.{clash}
+use Rattle.row.specs.Base.{upd-at, upd-other, same?}
+use Rattle.row.specs.Lists.Edges.{marked, at, Mine, is-marked, retag}
+use Rattle.row.specs.Machine.World.{World, with-e, Opened, closed, opened, Hunt, stands-at, meets, took, Trial, Next, goes, says}
+use Rattle.row.specs.Machine.Moves.{hunt-open, hunt-take, hunts, move}
+use Rattle.row.specs.Steps.Spots.{Mem, StandOk}
+use Rattle.row.specs.Graphs.Good.{WGood}
 use Rattle.promises.proofs.Showing.Shows.{Searched}
 use Rattle.promises.proofs.Showing.Tests.{or-false}
 use Rattle.promises.proofs.Showing.Weighing.{weigh, weigh-one-more}

@@ -10,11 +10,13 @@ use lib.Dec.{eqb, leb}
 use lib.IntN.{ℤ}
 use Rattle.catalogue.specs.Tests.{pick, upd}
 use Rattle.catalogue.specs.Workers.{count}
-use Rattle.row.specs.Base.{upd-at, clash}
-use Rattle.row.specs.Edges.{marked, at, Mine, is-marked, retag}
-use Rattle.row.specs.World.{World, with-e, Opened, closed, opened, Hunt, stands-at, meets, took, Trial, Next, goes, says, hunt-open, hunt-take, hunts, move}
-use Rattle.row.specs.Deeds.{StandOk}
-use Rattle.row.specs.Graph.{WGood}
+use Rattle.catalogue.proofs.Picks.{clash}
+use Rattle.row.specs.Base.{upd-at}
+use Rattle.row.specs.Lists.Edges.{marked, at, Mine, is-marked, retag}
+use Rattle.row.specs.Machine.World.{World, with-e, Opened, closed, opened, Hunt, stands-at, meets, took, Trial, Next, goes, says}
+use Rattle.row.specs.Machine.Moves.{hunt-open, hunt-take, hunts, move}
+use Rattle.row.specs.Steps.Spots.{StandOk}
+use Rattle.row.specs.Graphs.Good.{WGood}
 use Rattle.promises.proofs.Showing.Shows.{Searched}
 use Rattle.promises.proofs.Showing.Tail.{no-tail}
 use Rattle.promises.proofs.Showing.Tests.{or-false}

@@ -11,7 +11,7 @@ use Rattle.catalogue.specs.Workers.{has, with-met, idle, begun, kept, queued, t
 use Rattle.catalogue.specs.declared.workers.Place.{Place}
 use Rattle.catalogue.specs.declared.workers.Worker.{Worker}
 use Rattle.workers.proofs.MetLaws.{none-met}
-use Rattle.row.specs.World.{Opened, closed, Hunt, hunt-from, stands-at, meets, took}
+use Rattle.row.specs.Machine.World.{Opened, closed, Hunt, hunt-from, stands-at, meets, took}
 use Rattle.promises.specs.Bounds.{total}
 use Rattle.promises.proofs.Showing.Weighing.{weigh-none, weigh-one-more, total-last}
 use Rattle.promises.proofs.Showing.Shows.{Series, Open, Hunted}

@@ -5,8 +5,9 @@ use mathlib.Core.List.{List, [], _∷_, _++_}
 use mathlib.Core.Logic.{inl, inr}
 use mathlib.Core.Path.{_≡_, refl, sym, _∙_}
 use Rattle.catalogue.specs.Tests.{upd}
-use Rattle.row.specs.Base.{upd-at, upd-other, same?, clash}
-use Rattle.row.specs.Deeds.{Mem}
+use Rattle.catalogue.proofs.Picks.{clash}
+use Rattle.row.specs.Base.{upd-at, upd-other, same?}
+use Rattle.row.specs.Steps.Spots.{Mem}
 use Rattle.promises.proofs.Showing.Shows.{Series, Once, Searched}
 use Rattle.promises.proofs.Showing.Tests.{never}
 

@@ -17,10 +17,10 @@ use Rattle.catalogue.specs.declared.links.EdgeLink.{EdgeLink}
 use Rattle.catalogue.specs.declared.links.EdgeLink.the-variants as edge
 use Rattle.catalogue.specs.Live.{vertices, edges-of, unmarked, live-vertices, live-edges-of, gather, is-live}
 use Rattle.catalogue.specs.Soundness.{Asks, listing, sweep, tag-fits, vertex-sound, target-sound, edge-sound, edges-sound, sound}
-use Rattle.row.specs.LiveSet.{eqZ-yes}
-use Rattle.row.specs.Edges.{Tag, marked, transit, added, at, Mine, InList}
-use Rattle.row.specs.World.{World, Untried}
-use Rattle.row.specs.Graph.{WGood}
+use Rattle.row.specs.Tests.{eqZ-yes}
+use Rattle.row.specs.Lists.Edges.{Tag, marked, transit, added, at, Mine, InList}
+use Rattle.row.specs.Machine.World.{World, Untried}
+use Rattle.row.specs.Graphs.Good.{WGood}
 use Rattle.promises.proofs.Showing.Shows.{Shows, vertex-tag-of, edge-tag-of}
 use Rattle.promises.proofs.Lists.Members.{Among, Distinct, every-is, member-is, keep-distinct, from-gathered, gather-distinct, pigeonhole}
 use Rattle.promises.proofs.Lists.Meets.{mark-v, met-v, distinct-v, meets-v, live-v, listed-in, distinct-e, live-e}

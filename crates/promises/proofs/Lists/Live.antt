@@ -6,14 +6,14 @@ use lib.IntN.{ℤ}
 use Rattle.catalogue.specs.Tests.{pick, eqZ}
 use Rattle.catalogue.specs.Catalogue.{Catalogue}
 use Rattle.catalogue.specs.Listing.{vertex-lines, edge-lines}
-use Rattle.catalogue.proofs.Picks.{both-true}
-use Rattle.row.specs.Base.{clash}
-use Rattle.row.specs.LiveSet.{eqZ-true, eqZ-refl, bool-iff}
-use Rattle.row.specs.Machine
-use Rattle.row.specs.World.{World, edges}
-use Rattle.row.specs.Graph.{WGood}
-use Rattle.row.specs.Fair.{end, via, loopless}
-use Rattle.row.specs.Fair
+use Rattle.catalogue.proofs.Picks.{both-true, clash}
+use Rattle.catalogue.proofs.Rules.{eqZ-refl, eqZ-eq}
+use Rattle.row.specs.Tests.{bool-iff}
+use Rattle.row.specs.Machine.Vertices
+use Rattle.row.specs.Machine.World.{World, edges}
+use Rattle.row.specs.Graphs.Good.{WGood}
+use Rattle.row.specs.Graphs.Loops.{end, via, loopless}
+use Rattle.row.specs.Graphs.Loops
 use Rattle.promises.specs.Graphs.{same-line, printed, live, Walk, here, over}
 use Rattle.promises.proofs.Showing.Shows.{Shows}
 use Rattle.promises.proofs.Lists.Chains.{Listed, later}
@@ -30,7 +30,7 @@ same-is [] (l ∷ ls) e = clash (cc)
 same-is (k ∷ ks) [] e = clash (cc)
 same-is (k ∷ ks) (l ∷ ls) e =
     let z = both-true (eqZ k l) (same-line ks ls) e in
-    ap₂ (λ (a : ℤ) (b : List ℤ). a ∷ b) (eqZ-true k l (z .0)) (same-is ks ls (z .1))
+    ap₂ (λ (a : ℤ) (b : List ℤ). a ∷ b) (eqZ-eq k l (z .0)) (same-is ks ls (z .1))
 
 same-self : (l : List ℤ) → same-line l l ≡ true
 unfolding same-line
@@ -56,9 +56,9 @@ printed-of {l} (later {m} {ls} i) = by (same-line l m) (printed-of i)
     by false q = q
 
 module _ (C : Catalogue) (W : World) (s : Shows C W) (g : WGood W) where
-  pub series-is : (k : ℤ) → live C .series k ≡ Machine.live (W .v) k
+  pub series-is : (k : ℤ) → live C .series k ≡ Vertices.live (W .v) k
   series-is k =
-      bool-iff (live C .series k) (Machine.live (W .v) k)
+      bool-iff (live C .series k) (Vertices.live (W .v) k)
       (λ e. vertex-read C W s g k (listed-of (k ∷ []) (vertex-lines C) e)) (λ e. printed-of (vertex-printed C W s g k e))
 
   pub derived-is : (k l : ℤ) → live C .derived k l ≡ edges W k l
@@ -66,7 +66,7 @@ module _ (C : Catalogue) (W : World) (s : Shows C W) (g : WGood W) where
       bool-iff (live C .derived k l) (edges W k l)
       (λ e. reading C W s g k l (listed-of (k ∷ l ∷ []) (edge-lines C) e)) (λ e. printed-of (Printed.printed C W s g k l e))
 
-  pub walk-is : {to from : ℤ} → Walk (live C) to from → Fair.Walk (edges W) to from
+  pub walk-is : {to from : ℤ} → Walk (live C) to from → Loops.Walk (edges W) to from
   walk-is here = end refl
   walk-is (over {from} next e w) = via next (sym (derived-is from next) ∙ e) (walk-is w)
 

@@ -9,13 +9,15 @@ use lib.Signed.{_<ℤ_, <ℤ-irrefl}
 use Rattle.catalogue.specs.Tests.{pick}
 use Rattle.catalogue.specs.Catalogue.{Catalogue}
 use Rattle.catalogue.specs.Live.{walk, next-vertex, first-edge, next-edge, vertices, edges-of, unmarked, is-live, live-vertices, live-edges-of}
-use Rattle.row.specs.Base.{clash, <ℤ-trans}
-use Rattle.row.specs.Links.{Run, stop, go, run-tail, run-fold}
-use Rattle.row.specs.LiveSet.{and-true, not-true}
-use Rattle.row.specs.Store.{view, Stands}
-use Rattle.row.specs.Edges.{Tag, marked, transit, added, head, at, is-marked, link, InList, Mine}
-use Rattle.row.specs.World.{World, is-added}
-use Rattle.row.specs.Graph.{WGood, added-is, added-plain}
+use Rattle.catalogue.proofs.Picks.{clash}
+use Rattle.row.specs.Base.{<ℤ-trans}
+use Rattle.row.specs.Lists.Links.{Run, stop, go, run-tail, run-fold}
+use Rattle.row.specs.Tests.{and-true, not-true}
+use Rattle.row.specs.Lists.Store.{view, Stands}
+use Rattle.row.specs.Lists.Edges.{Tag, marked, transit, added, head, at, is-marked, link, InList, Mine}
+use Rattle.row.specs.Machine.World.{World, is-added}
+use Rattle.row.specs.Graphs.Good.{WGood}
+use Rattle.row.specs.Graphs.Graph.{added-is, added-plain}
 use Rattle.promises.proofs.Showing.Shows.{Shows, Series, vertex-tag-of, edge-tag-of}
 use Rattle.promises.proofs.Lists.Members.{Among, Distinct, kept, from-kept}
 use Rattle.promises.proofs.Lists.Walked.{On, walk-on, walk-distinct, walk-meets, walk-same}

@@ -10,8 +10,8 @@ use lib.Dec.{eqb}
 use lib.ListN.{length}
 use Rattle.catalogue.specs.Tests.{pick, keep, every, member}
 use Rattle.catalogue.specs.Live.{gather}
-use Rattle.catalogue.proofs.Picks.{pick-both}
-use Rattle.row.specs.Base.{same?, clash}
+use Rattle.catalogue.proofs.Picks.{pick-both, clash}
+use Rattle.row.specs.Base.{same?}
 
 abbrev pub Among : {A : Type 0} → A → List A → Type 0
 Among y [] = ⊥

@@ -8,12 +8,13 @@ use lib.IntN.{ℤ}
 use Rattle.catalogue.specs.Catalogue.{Catalogue, vertex-key, edge-key}
 use Rattle.catalogue.specs.Live.{live-vertices, live-edges-of}
 use Rattle.catalogue.specs.Listing.{vertex-lines, edge-lines}
-use Rattle.row.specs.Machine.{live}
-use Rattle.row.specs.LiveSet.{present-yes, yes-present}
-use Rattle.row.specs.Store.{Stands}
-use Rattle.row.specs.World.{World, edges}
-use Rattle.row.specs.Graph.{WGood, edge-yes, yes-edge}
-use Rattle.row.specs.Fair.{Walk, end, via, loopless}
+use Rattle.row.specs.Machine.Vertices.{live}
+use Rattle.row.specs.Graphs.LiveSet.{present-yes, yes-present}
+use Rattle.row.specs.Lists.Store.{Stands}
+use Rattle.row.specs.Machine.World.{World, edges}
+use Rattle.row.specs.Graphs.Good.{WGood}
+use Rattle.row.specs.Graphs.Graph.{edge-yes, yes-edge}
+use Rattle.row.specs.Graphs.Loops.{Walk, end, via, loopless}
 use Rattle.promises.proofs.Lists.Chains.{Listed, here, later, Derived, Chain, last, more}
 use Rattle.promises.proofs.Showing.Shows.{Shows}
 use Rattle.promises.proofs.Lists.Members.{Among, mapped, from-mapped, gathered, from-gathered}

@@ -12,7 +12,7 @@ use lib.ListN.{length}
 use lib.Signed.{_<ℤ_, <ℤ-irrefl}
 use Rattle.catalogue.specs.Live.{walk}
 use Rattle.row.specs.Base.{same?, <ℤ-trans}
-use Rattle.row.specs.Links.{Run, stop, go}
+use Rattle.row.specs.Lists.Links.{Run, stop, go}
 use Rattle.promises.proofs.Lists.Members.{Among, Distinct, pigeonhole}
 
 module _ (next : ℕ → ℕ) (end : ℕ) where

@@ -9,12 +9,16 @@ use lib.Dec.{eqb, leb}
 use lib.Signed.{ltZ}
 use Rattle.catalogue.specs.Tests.{eqZ}
 use Rattle.row.specs.Base.{upd-at}
-use Rattle.row.specs.Edges.{Prev, is-marked}
-use Rattle.row.specs.World.{World, Kind, Opened, closed, opened, Hunt, Spot, Rest, Vert, FindU, FindV, LookE, ConE, Trial, Next, VSeen, lower, found, missing, vlook, find-u, find-v, is-added, con-e, ESeen, e-dead, e-again, e-passes, e-marks, e-onward, e-settle, elook, look-e, hunt-take, hunts, trial, move, Conf, Choice, takes, steps, sweeps, takable, all-rest, act}
-use Rattle.row.specs.Older.{LiveE}
-use Rattle.row.specs.Deeds.{own, Deed, did6-deed}
-use Rattle.row.specs.Doing.{did6}
-use Rattle.row.specs.Course.{Fine6, serves-any, rest-all}
+use Rattle.row.specs.Lists.Edges.{Prev, is-marked}
+use Rattle.row.specs.Machine.World.{World, Kind, Opened, closed, opened, Hunt, Spot, Rest, Vert, FindU, FindV, LookE, ConE, Trial, Next, is-added}
+use Rattle.row.specs.Machine.Moves.{VSeen, lower, found, missing, vlook, find-u, find-v, con-e, ESeen, e-dead, e-again, e-passes, e-marks, e-onward, e-settle, elook, look-e, hunt-take, hunts, trial, move}
+use Rattle.row.specs.Machine.Runs.{Conf, Choice, takes, steps, sweeps, takable, all-rest, act}
+use Rattle.row.specs.Graphs.Older.{LiveE}
+use Rattle.row.specs.Steps.Spots.{own}
+use Rattle.row.specs.Steps.Deeds.{Deed}
+use Rattle.row.specs.Steps.Outcomes.{did-deed}
+use Rattle.row.specs.Steps.Doing.{did}
+use Rattle.row.specs.Runs.Course.{Fine, serves-any, rest-all}
 
 -- ---- edges handed out
 
@@ -114,13 +118,13 @@ calm-cond X true Y f = f refl
 calm-cond X false Y f = calm-same (X .world)
 
 -- a choice beside a busy worker
-pub act-calm : (X : Conf) → Fine6 X → (w : ℕ) → (X .at w ≡ Rest → ⊥) → (c : Choice) → Calm (X .world) (act X c .world) ⊎ Inserted X (act X c)
+pub act-calm : (X : Conf) → Fine X → (w : ℕ) → (X .at w ≡ Rest → ⊥) → (c : Choice) → Calm (X .world) (act X c .world) ⊎ Inserted X (act X c)
 act-calm X f w n (takes v q) = inl (calm-cond X (takable (X .at) v q) _ (λ e. calm-same (X .world)))
 act-calm X f w n (sweeps W) = inl (calm-cond X (all-rest 8 (X .at)) _ (λ e. absurd (n (rest-all X f e w))))
 act-calm X f w n (steps v) =
     let W : World = X .world in
     let z = serves-any (X .at v) in
     elim (move-grows W (X .at v)) [
-      | inl q ↦ inl (calm-deed (did6-deed (did6 W (f .good) (z .0) (X .at v) (f .ok v) (z .1))) q)
+      | inl q ↦ inl (calm-deed (did-deed (did W (f .good) (z .0) (X .at v) (f .ok v) (z .1))) q)
       | inr p ↦ inr (v, p .0, rw (upd-at (X .at) v (move W (X .at v) .spot) v refl, p .1) (f .good .esound .some))
     ]

@@ -9,10 +9,11 @@ use Rattle.catalogue.specs.Live.{edges-of}
 use Rattle.catalogue.specs.Runs.{Moment}
 use Rattle.catalogue.specs.declared.links.EdgeLink.the-variants as edge
 use Rattle.catalogue.specs.declared.workers.Place.the-variants.{TrialOpen}
-use Rattle.row.specs.Base.{clash}
-use Rattle.row.specs.Edges.{Tag, marked, transit, added, is-marked, InList}
-use Rattle.row.specs.World.{World, Opened, closed, opened, Trial, Conf}
-use Rattle.row.specs.Deeds.{Ok6}
+use Rattle.catalogue.proofs.Picks.{clash}
+use Rattle.row.specs.Lists.Edges.{Tag, marked, transit, added, is-marked, InList}
+use Rattle.row.specs.Machine.World.{World, Opened, closed, opened, Trial}
+use Rattle.row.specs.Machine.Runs.{Conf}
+use Rattle.row.specs.Steps.Spots.{Ok}
 use Rattle.promises.specs.Moments.{place-of}
 use Rattle.promises.specs.Outside.{open-at}
 use Rattle.promises.proofs.Showing.Shows.{Series, edge-tag-of, trial-place}
@@ -45,7 +46,7 @@ module _ (workers : ℕ) (m : Moment) (X : Conf) (h : Held workers m X) where
   open-spot most w low k l u v e x c q n =
       let z = trying-spot workers m X h most w low k l u v e (open-at x c q) in
       let o = stand-is k l u v e x c (z .hunt .stand) (sym q ∙ z .stands) in
-      let ok : Ok6 W (Trial k l u v e (z .hunt)) = rw (z .is) at (h .fine .ok w) in
+      let ok : Ok W (Trial k l u v e (z .hunt)) = rw (z .is) at (h .fine .ok w) in
       record { series = rw o at (z .keeps .open-series); listed = no-tail (W .e) x c (rw o at (ok .2 .place)) n }
 
   pub in-list : (x c : ℕ) → Open W x c → (next tag : ℕ) → edge-link (m .catalogue) c ≡ edge.At next tag → (tag ≡ 1 → ⊥)

@@ -14,12 +14,15 @@ use Rattle.catalogue.specs.declared.workers.Place.the-variants as place
 use Rattle.catalogue.specs.declared.workers.Worker.{Worker}
 use Rattle.catalogue.specs.declared.writes.Write.{Write}
 use Rattle.catalogue.specs.declared.writes.Write.the-variants.{EdgeLink}
-use Rattle.row.specs.Base.{clash}
-use Rattle.row.specs.Machine
-use Rattle.row.specs.Edges.{marked, transit, retag}
-use Rattle.row.specs.World.{World, with-e, Trial, Conf, edges}
-use Rattle.row.specs.Graph.{WGood, edges-drop}
-use Rattle.row.specs.Deeds.{Pair, Own, Ok6, deed-retag}
+use Rattle.catalogue.proofs.Picks.{clash}
+use Rattle.row.specs.Machine.Vertices
+use Rattle.row.specs.Lists.Edges.{marked, transit, retag}
+use Rattle.row.specs.Machine.World.{World, with-e, Trial, edges}
+use Rattle.row.specs.Machine.Runs.{Conf}
+use Rattle.row.specs.Graphs.Good.{WGood}
+use Rattle.row.specs.Graphs.Changes.{edges-drop}
+use Rattle.row.specs.Steps.Spots.{Pair, Own, Ok}
+use Rattle.row.specs.Steps.Writes.{deed-retag}
 use Rattle.promises.specs.Moments.{moment, place-of}
 use Rattle.promises.specs.Graphs.{live}
 use Rattle.promises.specs.Outside.{Replies, left, shut, Crossed}
@@ -85,7 +88,7 @@ module _ (m : Moment) (w : ℕ) where
 -- ---- nothing live changes
 
 -- catalogues that show worlds with the same live keys and pairs
-same-live : (C D : Catalogue) (W X : World) → Shows C W → WGood W → Shows D X → WGood X → ((k : ℤ) → Machine.live (W .v) k ≡ Machine.live (X .v) k)
+same-live : (C D : Catalogue) (W X : World) → Shows C W → WGood W → Shows D X → WGood X → ((k : ℤ) → Vertices.live (W .v) k ≡ Vertices.live (X .v) k)
     → edges W ≡ edges X → live C ≡ live D
 same-live C D W X s g t h p q =
     graph-path (λ k. series-is C W s g k ∙ p k ∙ sym (series-is D X t h k))
@@ -107,7 +110,7 @@ module _ (workers : ℕ) (m : Moment) (X : Conf) (h : Held workers m X) (most : 
   tried : Pair W (z .k) (z .l) (z .u) (z .v) × Own (W .e) (z .l) (z .u) (z .v) (z .e)
   tried =
       let a = trying-spot workers m X h most w low (z .k) (z .l) (z .u) (z .v) (z .e) (shut (z .is)) in
-      let ok : Ok6 W (Trial (z .k) (z .l) (z .u) (z .v) (z .e) (a .hunt)) = rw (a .is) at (h .fine .ok w) in
+      let ok : Ok W (Trial (z .k) (z .l) (z .u) (z .v) (z .e) (a .hunt)) = rw (a .is) at (h .fine .ok w) in
       (ok .0, ok .1)
 
   unchanged : live (left m w) ≡ live (m .catalogue)

@@ -8,9 +8,11 @@ use lib.IntN.{ℤ}
 use lib.ListN.{length}
 use Rattle.catalogue.specs.Runs.{Choice, Moment}
 use Rattle.catalogue.specs.Workers.{worker-at}
-use Rattle.row.specs.Base.{clash, same?, lt-or}
-use Rattle.row.specs.World.{World, Trial, Conf}
-use Rattle.row.specs.Deeds.{Own, Pair, Ok6, own}
+use Rattle.catalogue.proofs.Picks.{clash}
+use Rattle.row.specs.Base.{same?, lt-or}
+use Rattle.row.specs.Machine.World.{World, Trial}
+use Rattle.row.specs.Machine.Runs.{Conf}
+use Rattle.row.specs.Steps.Spots.{Own, Pair, Ok, own}
 use Rattle.promises.specs.Moments.{Given, moment}
 use Rattle.promises.specs.Outside.{Lasts, Undisturbed}
 use Rattle.promises.proofs.Runs.Held.{Held}
@@ -43,7 +45,7 @@ module _ (workers : ℕ) (choices : List Choice) (g : Given workers choices) (w 
     mine = trying-spot workers (M n) (X n) (held n) (g .most) w low k l u v e (o .tries n a b)
 
     pub own-ok : Pair (W n) k l u v × Own (W n .e) l u v e
-    own-ok = let z : Ok6 (W n) (Trial k l u v e (mine .hunt)) = rw (mine .is) at (held n .fine .ok w) in (z .0, z .1)
+    own-ok = let z : Ok (W n) (Trial k l u v e (mine .hunt)) = rw (mine .is) at (held n .fine .ok w) in (z .0, z .1)
 
     pub own-is : own (X n .at w) ≡ e
     own-is = ap own (mine .is)

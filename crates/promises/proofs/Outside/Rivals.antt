@@ -16,11 +16,13 @@ use Rattle.catalogue.specs.declared.workers.Prev
 use Rattle.catalogue.specs.declared.workers.Worker.{Worker}
 use Rattle.catalogue.specs.declared.writes.Write.{Write}
 use Rattle.catalogue.specs.declared.writes.Write.the-variants.{Nothing}
-use Rattle.row.specs.Base.{clash}
-use Rattle.row.specs.LiveSet.{eqZ-true}
-use Rattle.row.specs.Edges.{Tag, marked, transit, added, Prev, at, link}
-use Rattle.row.specs.World.{World, ESeen, LookE, Trial, Conf, OnTrial}
-use Rattle.row.specs.Deeds.{Ok6}
+use Rattle.catalogue.proofs.Picks.{clash}
+use Rattle.catalogue.proofs.Rules.{eqZ-eq}
+use Rattle.row.specs.Lists.Edges.{Tag, marked, transit, added, Prev, at, link}
+use Rattle.row.specs.Machine.World.{World, LookE, Trial, OnTrial}
+use Rattle.row.specs.Machine.Moves.{ESeen}
+use Rattle.row.specs.Machine.Runs.{Conf}
+use Rattle.row.specs.Steps.Spots.{Ok}
 use Rattle.promises.specs.Moments
 use Rattle.promises.specs.Moments.{place-of}
 use Rattle.promises.specs.Outside.{Rival}
@@ -77,7 +79,7 @@ tried W l u p c x y kept next q (marks o) = clash (cc)
 tried W l u p c x y kept next q (onward o) = clash (cc)
 tried W l u p c x y kept next q (equal lead o e t f m) =
     let z : edge-tag-of t ≡ 2 = cc in
-    record { lead = lead; on = record { low = o .0; high = o .1; tried = f ∙ tag-is t z }; key = eqZ-true (W .e .key c) l e }
+    record { lead = lead; on = record { low = o .0; high = o .1; tried = f ∙ tag-is t z }; key = eqZ-eq (W .e .key c) l e }
 tried W l u p c x y kept next q (other lead e next′ tag) = clash (cc)
 
 module _ (workers : ℕ) (m : Moment) (X : Conf) (h : Held workers m X) (most : workers ≤ 8) (w : ℕ) (low : w < workers) where
@@ -93,11 +95,11 @@ module _ (workers : ℕ) (m : Moment) (X : Conf) (h : Held workers m X) (most : 
   -- whose edge it is
   other-worker : (k l : ℤ) (u v : ℕ) (p : Prev) (c : ℕ) → X .at w ≡ LookE true k l u v p c → Tried W l u c p → Rival workers m w k l
   other-worker k l u v p c is t =
-      let ok : Ok6 W (LookE true k l u v p c) = rw is at (h .fine .ok w) in
+      let ok : Ok W (LookE true k l u v p c) = rw is at (h .fine .ok w) in
       let y = h .fine .tried c (t .on) in
       let z = trier workers m X h most (y .0) c (t .on .low) (y .1) in
       let i = z .trial in
-      let mine : Ok6 W (Trial (i .k) (i .l) (i .u) (i .v) c (i .hunt)) = rw (i .is) at (h .fine .ok (y .0)) in
+      let mine : Ok W (Trial (i .k) (i .l) (i .u) (i .v) c (i .hunt)) = rw (i .is) at (h .fine .ok (y .0)) in
       let there = h .fine .good .esound .sorted u .follows p (ok .1 .inside) (ok .1 .inner) .inside in
       let listed = no-tail (W .e) u c (rw (t .lead) at there) (λ q. omega (arith, t .on .low)) in
       let same-u : i .u ≡ u = sym (mine .1 .from-u) ∙ listed .own in
@@ -118,7 +120,7 @@ module _ (workers : ℕ) (m : Moment) (X : Conf) (h : Held workers m X) (most : 
     where
       by : Looks (z .k) (z .l) (z .u) (z .v) (z .p) (z .c) (X .at w) → Rival workers m w (z .k) (z .l)
       by s =
-          let ok : Ok6 W (LookE true (z .k) (z .l) (z .u) (z .v) (s .behind) (z .c)) = rw (s .is) at (h .fine .ok w) in
+          let ok : Ok W (LookE true (z .k) (z .l) (z .u) (z .v) (s .behind) (z .c)) = rw (s .is) at (h .fine .ok w) in
           let st : Stands used r (LookE true (z .k) (z .l) (z .u) (z .v) (s .behind) (z .c)) = rw (s .is) at (h .shown w (omega arith) .stands) in
           let seen = sees (m .catalogue) W (h .shows) (h .fine .good) (z .l) (z .u) (z .v) (s .behind) (z .c) (ok .0 .legal) (ok .1) (st .1)
           (series-of (ok .0 .source)) (series-of (ok .0 .goal)) in

@@ -10,11 +10,13 @@ use Rattle.catalogue.specs.Workers.{worker-at}
 use Rattle.catalogue.specs.declared.workers.Place.the-variants as place
 use Rattle.catalogue.specs.declared.workers.Prev
 use Rattle.catalogue.specs.declared.workers.Worker.{Worker}
-use Rattle.row.specs.Base.{clash, lt-or}
-use Rattle.row.specs.Machine.{Idle, AddV, RemV, ConV}
-use Rattle.row.specs.Edges.{Prev}
-use Rattle.row.specs.World.{Opened, closed, opened, adds, rems, cons, Hunt, Spot, Rest, Vert, FindU, FindV, LookE, ConE, Trial, Conf}
-use Rattle.row.specs.Deeds.{own}
+use Rattle.catalogue.proofs.Picks.{clash}
+use Rattle.row.specs.Base.{lt-or}
+use Rattle.row.specs.Machine.Vertices.{Idle, AddV, RemV, ConV}
+use Rattle.row.specs.Lists.Edges.{Prev}
+use Rattle.row.specs.Machine.World.{Opened, closed, opened, adds, rems, cons, Hunt, Spot, Rest, Vert, FindU, FindV, LookE, ConE, Trial}
+use Rattle.row.specs.Machine.Runs.{Conf}
+use Rattle.row.specs.Steps.Spots.{own}
 use Rattle.promises.specs.Moments.{place-of}
 use Rattle.promises.specs.Outside.{Tries, shut, open-at}
 use Rattle.promises.proofs.Showing.Shows.{Stands, Hunted, prev-of, trial-place}

@@ -8,7 +8,7 @@ use lib.IntN.{ℤ}
 use Rattle.catalogue.specs.Runs.{Choice}
 use Rattle.catalogue.specs.declared.workers.Place.the-variants.{Idle}
 use Rattle.row.specs.Base.{same?}
-use Rattle.row.specs.World.{conf}
+use Rattle.row.specs.Machine.Runs.{conf}
 use Rattle.catalogue.proofs.Picks.{clash}
 use Rattle.promises.specs.Moments.{Given, moment, place-of}
 use Rattle.promises.specs.Outside.{Tries, Lasts}

@@ -13,14 +13,17 @@ use Rattle.catalogue.specs.Live.{unmarked, live-vertices, live-edges-of}
 use Rattle.catalogue.specs.Runs.{Choice, Moment}
 use Rattle.catalogue.specs.declared.links.EdgeLink.the-variants as edge
 use Rattle.catalogue.specs.declared.links.Target.the-variants as target
-use Rattle.row.specs.Base.{clash, same?}
-use Rattle.row.specs.Store
-use Rattle.row.specs.LiveSet.{not-true}
-use Rattle.row.specs.Edges.{Tag, marked, transit, added, is-marked}
-use Rattle.row.specs.World.{World, Conf}
-use Rattle.row.specs.Graph.{WGood, edge-yes}
-use Rattle.row.specs.Older.{LiveE}
-use Rattle.row.specs.Deeds.{own}
+use Rattle.catalogue.proofs.Picks.{clash}
+use Rattle.row.specs.Base.{same?}
+use Rattle.row.specs.Lists.Store
+use Rattle.row.specs.Tests.{not-true}
+use Rattle.row.specs.Lists.Edges.{Tag, marked, transit, added, is-marked}
+use Rattle.row.specs.Machine.World.{World}
+use Rattle.row.specs.Machine.Runs.{Conf}
+use Rattle.row.specs.Graphs.Good.{WGood}
+use Rattle.row.specs.Graphs.Graph.{edge-yes}
+use Rattle.row.specs.Graphs.Older.{LiveE}
+use Rattle.row.specs.Steps.Spots.{own}
 use Rattle.promises.specs.Moments.{Given, moment}
 use Rattle.promises.specs.Graphs.{Graph, Walk, here, over}
 use Rattle.promises.specs.Graphs

@@ -8,16 +8,18 @@ use lib.Dec.{eqb}
 use lib.ListN.{length}
 use Rattle.catalogue.specs.Tests.{pick}
 use Rattle.catalogue.specs.Runs.{Choice}
-use Rattle.row.specs.Base.{clash}
-use Rattle.row.specs.Row.{Call, Event, quiet, acts, looks, by}
-use Rattle.row.specs.Assemble.{assemble}
-use Rattle.row.specs.LiveSet.{and-true}
-use Rattle.row.specs.World.{World, takes, steps, sweeps, conf, Began, began, opens, graph, alone, counts, Honest}
-use Rattle.row.specs.World
-use Rattle.row.specs.Graph.{WGood}
-use Rattle.row.specs.Doing.{same-between}
-use Rattle.row.specs.Happen.{event6}
-use Rattle.row.specs.Fair.{loopless}
+use Rattle.catalogue.proofs.Picks.{clash}
+use Rattle.row.specs.Rows.Row.{Call, Event, quiet, acts, looks, by}
+use Rattle.row.specs.Rows.Assemble.{assemble}
+use Rattle.row.specs.Tests.{and-true}
+use Rattle.row.specs.Machine.World.{World, graph, alone}
+use Rattle.row.specs.Machine.Runs.{takes, steps, sweeps, conf, Began, began, opens, counts, Honest}
+use Rattle.row.specs.Machine.Runs
+use Rattle.row.specs.Machine.World
+use Rattle.row.specs.Graphs.Good.{WGood}
+use Rattle.row.specs.Steps.VertexDoing.{same-between}
+use Rattle.row.specs.Runs.Happen.{happens}
+use Rattle.row.specs.Graphs.Loops.{loopless}
 use Rattle.promises.specs.Moments.{moment, chosen}
 use Rattle.promises.specs.Graphs.{live}
 use Rattle.promises.specs.Alone.{Ask, Alone}
@@ -30,11 +32,11 @@ use Rattle.promises.proofs.Rows.Sequential.{Ended, graph-path, alone-is
 
 -- ---- small
 
-since-is : (o : Option World.Ask) (n : ℕ) (b : Began) → begun-of (World.since o n b) ≡ since (taken-of o) n (begun-of b)
+since-is : (o : Option World.Ask) (n : ℕ) (b : Began) → begun-of (Runs.since o n b) ≡ since (taken-of o) n (begun-of b)
 since-is none n b = refl
 since-is (some q) n b = refl
 
-said-is : (s : ℕ → World.Choice) (n : ℕ) (c : World.Choice) → World.said s n c ≡ said-by (λ w. began s w n) (conf s n) c
+said-is : (s : ℕ → Runs.Choice) (n : ℕ) (c : Runs.Choice) → Runs.said s n c ≡ said-by (λ w. began s w n) (conf s n) c
 said-is s n (takes w q) = refl
 said-is s n (steps w) = refl
 said-is s n (sweeps W) = refl
@@ -57,7 +59,7 @@ silent (some d) f c e = let z : call-of d ≡ c = cc in rw (← z) (counts-is d 
 -- ---- the history
 
 module _ (workers : ℕ) (choices : List Choice) (r : Run workers choices) where
-  abbrev s : ℕ → World.Choice
+  abbrev s : ℕ → Runs.Choice
   s = r .schedule
 
   begun-is : (w n : ℕ) → begun-of (began s w n) ≡ begun workers choices w n
@@ -65,7 +67,7 @@ module _ (workers : ℕ) (choices : List Choice) (r : Run workers choices) where
   begun-is w zero = refl
   begun-is w (suc n) = since-is (opens (conf s n) (s n) w) (suc n) (began s w n) ∙ ap₂ (λ o b. since o (suc n) b) (r .same n .taken w) (begun-is w n)
 
-  answered-is : (n : ℕ) → answered-of (World.answered s n) ≡ answered workers choices n
+  answered-is : (n : ℕ) → answered-of (Runs.answered s n) ≡ answered workers choices n
   answered-is zero = refl
   answered-is (suc n) =
       ap answered-of (said-is s n (s n)) ∙ r .same n .answered (λ w. began s w n)
@@ -99,8 +101,8 @@ module _ (workers : ℕ) (choices : List Choice) (r : Run workers choices) where
   still : (j : ℕ) → graph (world (suc j)) ≡ graph (world j) → live (moment workers choices (suc j) .catalogue) ≡ live (moment workers choices j .catalogue)
   still j e = sym (live-is (suc j)) ∙ ap graph-of e ∙ live-is j
 
-  event-is : (j : ℕ) → Event (by alone) counts (World.history s) j → Event Alone in-row (history workers choices) j
-  event-is j (quiet q e) = quiet (λ c a. silent (World.answered s (suc j)) q c (answered-is (suc j) ∙ a)) (still j e)
+  event-is : (j : ℕ) → Event (by alone) counts (Runs.history s) j → Event Alone in-row (history workers choices) j
+  event-is j (quiet q e) = quiet (λ c a. silent (Runs.answered s (suc j)) q c (answered-is (suc j) ∙ a)) (still j e)
   event-is j (acts c a b f d) = acts (call-of c) (sym (answered-is (suc j)) ∙ ap answered-of a) (counts-is c ∙ b) f (does-is j (suc j) c d)
   event-is j (looks c a b e t f u d) =
       looks (call-of c) (sym (answered-is (suc j)) ∙ ap answered-of a) (counts-is c ∙ b) (still j e) t f u (does-is t t c d)
@@ -109,7 +111,7 @@ module _ (workers : ℕ) (choices : List Choice) (r : Run workers choices) where
   honest n W e g = r .same n .honest W e
 
   event : (j : ℕ) → Event Alone in-row (history workers choices) j
-  event j = event-is j (event6 s honest j)
+  event j = event-is j (happens s honest j)
 
 pub one-row : OneRow
 one-row workers choices g = assemble _ _ _ Alone in-row (history workers choices) (event workers choices (run workers choices g)) (length choices)

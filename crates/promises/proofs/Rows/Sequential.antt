@@ -4,12 +4,12 @@ use mathlib.Core.Bool.{Bool, true, false, cond, _&&_}
 use mathlib.Core.Path.{_≡_, refl, sym, ap, ap₂, _∙_, subst, fun-ext}
 use lib.IntN.{ℤ}
 use Rattle.catalogue.specs.Tests.{pick, eqZ}
-use Rattle.row.specs.LiveSet.{eqZ-refl}
-use Rattle.row.specs.Machine.{addV, remV, conV, put}
-use Rattle.row.specs.World.{vert, addE, remE, conE, put-edge, between, alone}
-use Rattle.row.specs.World
-use Rattle.row.specs.Fair.{end, via, Loopless}
-use Rattle.row.specs.Fair
+use Rattle.catalogue.proofs.Rules.{eqZ-refl}
+use Rattle.row.specs.Machine.Vertices.{addV, remV, conV, put}
+use Rattle.row.specs.Machine.World.{vert, addE, remE, conE, put-edge, between, alone}
+use Rattle.row.specs.Machine.World
+use Rattle.row.specs.Graphs.Loops.{end, via, Loopless}
+use Rattle.row.specs.Graphs.Loops
 use Rattle.promises.specs.Graphs.{Graph, Walk, here, over}
 use Rattle.promises.specs.Alone.{Ask, with-series, without-series, with-pair, both, Alone, addV-new, addV-there, remV-there, remV-none, conV-there, conV-none, addE-no-end, addE-there, addE-new, remE-no-end, remE-there, remE-none, conE-there, conE-none}
 use Rattle.promises.proofs.Showing.Tests.{pick-cond, pick-and}
@@ -76,7 +76,7 @@ put-keeps : (b t : Bool) → t ≡ true → cond b true t ≡ true
 put-keeps true t e = refl
 put-keeps false t e = e
 
-walk-put : (g : World.Graph) (k l : ℤ) {to from : ℤ} → Walk (graph-of g) to from → Fair.Walk (put-edge (g .e) k l true) to from
+walk-put : (g : World.Graph) (k l : ℤ) {to from : ℤ} → Walk (graph-of g) to from → Loops.Walk (put-edge (g .e) k l true) to from
 walk-put g k l here = end refl
 walk-put g k l (over {from} next e w) = via next (put-keeps (eqZ from k && eqZ next l) (g .e from next) e) (walk-put g k l w)
 

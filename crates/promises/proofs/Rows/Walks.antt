@@ -5,9 +5,9 @@ use mathlib.Core.Logic.{_⊎_, inl, inr}
 use mathlib.Core.Path.{_≡_, refl}
 use lib.IntN.{ℤ}
 use Rattle.catalogue.specs.Tests.{pick, eqZ}
-use Rattle.catalogue.proofs.Picks.{pick-both}
-use Rattle.row.specs.Base.{clash}
-use Rattle.row.specs.LiveSet.{eqZ-true, eqZ-refl, same-key?}
+use Rattle.catalogue.proofs.Picks.{pick-both, clash}
+use Rattle.catalogue.proofs.Rules.{eqZ-refl, eqZ-eq}
+use Rattle.row.specs.Tests.{same-key?}
 use Rattle.promises.specs.Graphs.{Graph, same-line, printed, Walk, here, over}
 
 abbrev pub Known : Type 0 → Type 0
@@ -91,7 +91,7 @@ module _ (series : ℤ → Bool) where
     where
       by : (x y : Bool) → eqZ i a ≡ x → eqZ j b ≡ y → pick (pick x (pick y true false) false) true (printed (i ∷ j ∷ []) ls) ≡ true
           → (printed (i ∷ j ∷ []) ls ≡ true) ⊎ ((i ≡ a) × (j ≡ b))
-      by true true e f q = inr (eqZ-true i a e, eqZ-true j b f)
+      by true true e f q = inr (eqZ-eq i a e, eqZ-eq j b f)
       by true false e f q = inl q
       by false y e f q = inl q
 

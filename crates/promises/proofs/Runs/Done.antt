@@ -16,11 +16,13 @@ use Rattle.catalogue.specs.declared.answers.Refusal.the-variants as refusal
 use Rattle.catalogue.specs.declared.answers.Answer.{Answer}
 use Rattle.catalogue.specs.declared.answers.Answer.the-variants as answer
 use Rattle.catalogue.specs.declared.workers.Worker.{Worker}
-use Rattle.catalogue.proofs.Picks.{pick-both}
-use Rattle.row.specs.Base.{upd-at, upd-other, same?, clash}
-use Rattle.row.specs.Row.{Call}
-use Rattle.row.specs.World.{World, Spot, Rest, move, Conf, Choice, steps, close, act}
-use Rattle.row.specs.Course.{Fine6, act-fine6}
+use Rattle.catalogue.proofs.Picks.{pick-both, clash}
+use Rattle.row.specs.Base.{upd-at, upd-other, same?}
+use Rattle.row.specs.Rows.Row.{Call}
+use Rattle.row.specs.Machine.World.{World, Spot, Rest}
+use Rattle.row.specs.Machine.Moves.{move}
+use Rattle.row.specs.Machine.Runs.{Conf, Choice, steps, close, act}
+use Rattle.row.specs.Runs.Course.{Fine, act-fine}
 use Rattle.promises.proofs.Showing.Shows.{Shows, Shown}
 use Rattle.promises.proofs.Showing.Tests.{second}
 use Rattle.promises.specs.Alone.{Ask}
@@ -32,7 +34,7 @@ use Rattle.promises.proofs.Runs.Held.{Held, shown-up, put-there, put-el
 
 module _ (workers : ℕ) (m : Moment) (X : Conf) (h : Held workers m X) (v : ℕ) (low : v < workers) (most : workers ≤ 8)
     (C : Catalogue) (W : World) (r : Worker) (s : Spot) where
-  pub held-with : Shows C W → Fine6 (record { world = W; at = upd (X .at) v s }) → X .world .v .used ≤ W .v .used → Shown (W .v .used) r s
+  pub held-with : Shows C W → Fine (record { world = W; at = upd (X .at) v s }) → X .world .v .used ≤ W .v .used → Shown (W .v .used) r s
       → Held workers (record { catalogue = C; table = put (m .table) v r }) (record { world = W; at = upd (X .at) v s })
   held-with a f u p = record {
     shows = a;
@@ -82,7 +84,7 @@ module _ (workers : ℕ) (m : Moment) (X : Conf) (h : Held workers m X) (most : 
   pub quiet : Held workers m (act X (steps 8))
   quiet = record {
     shows = rw quiet-world (h .shows);
-    fine = act-fine6 X (h .fine) (steps 8) (λ W e g. clash (cc));
+    fine = act-fine X (h .fine) (steps 8) (λ W e g. clash (cc));
     counted = h .counted;
     eight = h .eight;
     shown = λ w l. rw (quiet-world, quiet-at w) (h .shown w l);

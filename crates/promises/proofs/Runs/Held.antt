@@ -9,14 +9,15 @@ use Rattle.catalogue.specs.Runs.{Moment}
 use Rattle.catalogue.specs.Workers.{blank, worker-at, put, busy-at}
 use Rattle.catalogue.specs.declared.workers.Table.{Table}
 use Rattle.catalogue.specs.declared.workers.Worker.{Worker}
-use Rattle.row.specs.Machine.{Idle, AddV, RemV, ConV}
-use Rattle.row.specs.World.{Opened, closed, opened, adds, rems, cons, Spot, Rest, Vert, FindU, FindV, LookE, ConE, Trial, Conf, resting}
-use Rattle.row.specs.Course.{Fine6}
+use Rattle.row.specs.Machine.Vertices.{Idle, AddV, RemV, ConV}
+use Rattle.row.specs.Machine.World.{Opened, closed, opened, adds, rems, cons, Spot, Rest, Vert, FindU, FindV, LookE, ConE, Trial}
+use Rattle.row.specs.Machine.Runs.{Conf, resting}
+use Rattle.row.specs.Runs.Course.{Fine}
 use Rattle.promises.proofs.Showing.Shows.{Shows, Shown, Stands, Series, Open, trial-place}
 
 pub record Held (workers : ℕ) (m : Moment) (X : Conf) : Type 0 where
   pub shows : Shows (m .catalogue) (X .world)
-  pub fine : Fine6 X
+  pub fine : Fine X
   pub counted : m .table .count ≡ workers
   pub eight : length (m .table .workers) ≡ 8
   pub shown : (w : ℕ) → w < 8 → Shown (X .world .v .used) (worker-at (m .table) w) (X .at w)

@@ -1,8 +1,8 @@
 -- After every choice of the host the machine has a choice of its own: by the kind of the choice. Assumes nothing.
 use Prim.Native.Nat.{ℕ, _≤_}
 use Rattle.catalogue.specs.Runs.{Choice, takes, steps, sweeps, Moment, choose}
-use Rattle.row.specs.World.{Conf, act}
-use Rattle.row.specs.World
+use Rattle.row.specs.Machine.Runs.{Conf, act}
+use Rattle.row.specs.Machine.Runs
 use Rattle.promises.specs.Moments.{Keyed}
 use Rattle.promises.specs.Histories.{taken-up, answered-by}
 use Rattle.promises.specs.Promises.{Refused-torn}
@@ -14,7 +14,7 @@ use Rattle.promises.proofs.Runs.Sweeping.{sweeps-done}
 
 -- the machine's choice, what is held after it, and that both tell the same
 pub record Next (workers : ℕ) (m : Moment) (X : Conf) (c : Choice) : Type 0 where
-  pub choice : World.Choice
+  pub choice : Runs.Choice
   pub held : Held workers (choose m c .moment) (act X choice)
   pub same : Same X choice (taken-up m c) (λ b. answered-by b m c)
   pub whole : Refused-torn m c → ⊥

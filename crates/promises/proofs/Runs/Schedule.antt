@@ -11,8 +11,8 @@ use lib.ListN.{getD, take}
 use Rattle.catalogue.specs.Calls.{worker-fits, count-fits, step}
 use Rattle.catalogue.specs.Runs.{Choice, steps, Moment, start, choose, after}
 use Rattle.catalogue.proofs.Picks.{pick-both}
-use Rattle.row.specs.World.{Conf, act, conf}
-use Rattle.row.specs.World
+use Rattle.row.specs.Machine.Runs.{Conf, act, conf}
+use Rattle.row.specs.Machine.Runs
 use Rattle.promises.specs.Moments.{All, none, each, Keyed, Given, moment, chosen}
 use Rattle.promises.specs.Histories.{taken-up, answered-by}
 use Rattle.promises.proofs.Runs.Held.{Held}
@@ -49,7 +49,7 @@ keyed-at workers (c ∷ cs) (each k ks) (suc n) = keyed-at workers cs ks n
 
 -- The machine's choices over a run: what holds before each of them, and that each tells what the host's choice tells.
 pub record Run (workers : ℕ) (choices : List Choice) : Type 0 where
-  pub schedule : ℕ → World.Choice
+  pub schedule : ℕ → Runs.Choice
   pub held : (n : ℕ) → Held workers (moment workers choices n) (conf schedule n)
   pub same : (n : ℕ)
       → Same (conf schedule n) (schedule n) (taken-up (moment workers choices n) (chosen workers choices n))
@@ -77,7 +77,7 @@ module _ (workers : ℕ) (choices : List Choice) (given : Given workers choices)
   then : (n : ℕ) (z : Stand n) → Next workers (at n) (z .place) (does n)
   then n z = next workers (given .most) (at n) (z .place) (z .held) (does n) (keyed-at workers choices (given .keyed) n)
 
-  held-first : Held workers (at 0) World.fresh
+  held-first : Held workers (at 0) Runs.fresh
   unfolding after
   held-first = start-held workers
 
@@ -85,10 +85,10 @@ module _ (workers : ℕ) (choices : List Choice) (given : Given workers choices)
   held-next n z = rw (moment-next n (z .held .counted)) (then n z .held)
 
   unfoldable stand : (n : ℕ) → Stand n
-  stand zero = record { place = World.fresh; held = held-first }
+  stand zero = record { place = Runs.fresh; held = held-first }
   stand (suc n) = record { place = act (stand n .place) (then n (stand n) .choice); held = held-next n (stand n) }
 
-  abbrev made : ℕ → World.Choice
+  abbrev made : ℕ → Runs.Choice
   made n = then n (stand n) .choice
 
   stand-is : (n : ℕ) → conf made n ≡ stand n .place

@@ -17,11 +17,12 @@ use Rattle.catalogue.specs.declared.steps.Decision.{Decision}
 use Rattle.catalogue.specs.declared.steps.Decision.the-variants as decision
 use Rattle.catalogue.specs.declared.workers.Table.{Table}
 use Rattle.catalogue.specs.declared.workers.Worker.{Worker}
-use Rattle.catalogue.proofs.Picks.{pick-both}
-use Rattle.row.specs.Base.{clash}
-use Rattle.row.specs.Row.{Call}
-use Rattle.row.specs.World.{World, Spot, Rest, resting, move, Conf, steps, Began, close}
-use Rattle.row.specs.Course.{Fine6, act-fine6, act-both}
+use Rattle.catalogue.proofs.Picks.{pick-both, clash}
+use Rattle.row.specs.Rows.Row.{Call}
+use Rattle.row.specs.Machine.World.{World, Spot, Rest}
+use Rattle.row.specs.Machine.Moves.{move}
+use Rattle.row.specs.Machine.Runs.{resting, Conf, steps, Began, close}
+use Rattle.row.specs.Runs.Course.{Fine, act-fine, act-both}
 use Rattle.promises.specs.Alone.{Ask}
 use Rattle.promises.specs.Histories.{Begun, answers}
 use Rattle.promises.proofs.Showing.Shows.{Sure, reply-of}
@@ -31,7 +32,7 @@ use Rattle.promises.proofs.Runs.Telling.{begun-of, answered-of}
 use Rattle.promises.proofs.Runs.Done.{held-with, Tells, Done, refused, in-table}
 
 -- no vertex is handed back
-pub used-up : (X : Conf) → Fine6 X → (v : ℕ) → X .world .v .used ≤ move (X .world) (X .at v) .world .v .used
+pub used-up : (X : Conf) → Fine X → (v : ℕ) → X .world .v .used ≤ move (X .world) (X .at v) .world .v .used
 used-up X f v =
     by (X .world .v .used) (f .good .good .sound .some) (act-both X f (steps v) (λ W z. clash (cc)) .vm .stays)
   where
@@ -100,7 +101,7 @@ module _ (workers : ℕ) (m : Moment) (X : Conf) (h : Held workers m X) (most : 
         choice = steps v;
         held =
             held-with workers m X h v low most (commit (m .catalogue) (write-of d)) (move W (X .at v) .world) (record-after w d) (move W (X .at v) .spot)
-            (f .world) (act-fine6 X (h .fine) (steps v) (λ W e g. clash (cc))) (used-up X (h .fine) v) (f .spot);
+            (f .world) (act-fine X (h .fine) (steps v) (λ W e g. clash (cc))) (used-up X (h .fine) v) (f .spot);
         same = record {
           taken = λ x. refl;
           answered = λ c. replying-is (c v) (move W (X .at v) .answer) ∙ sym (answers-is (begun-of (c v)) (answer-of d (record-after w d)) ∙ ap (replying (begun-of (c v))) (q .replies ∙ f .reply));

@@ -16,11 +16,13 @@ use Rattle.catalogue.specs.declared.answers.Refusal.{Refusal}
 use Rattle.catalogue.specs.declared.answers.Refusal.the-variants as refusal
 use Rattle.catalogue.specs.declared.answers.Made.the-variants as made
 use Rattle.catalogue.specs.declared.workers.Table.{Table}
-use Rattle.row.specs.Base.{same?, lt-or, clash}
-use Rattle.row.specs.World
-use Rattle.row.specs.World.{World, Spot, Rest, resting, all-rest, Untried, graph, Conf, Choice, steps, sweeps, act}
-use Rattle.row.specs.Graph.{WGood}
-use Rattle.row.specs.Course.{act-fine6, rest-untried}
+use Rattle.catalogue.proofs.Picks.{clash}
+use Rattle.row.specs.Base.{same?, lt-or}
+use Rattle.row.specs.Machine.World
+use Rattle.row.specs.Machine.World.{World, Spot, Rest, Untried, graph}
+use Rattle.row.specs.Machine.Runs.{resting, all-rest, Conf, Choice, steps, sweeps, act}
+use Rattle.row.specs.Graphs.Good.{WGood}
+use Rattle.row.specs.Runs.Course.{act-fine, rest-untried}
 use Rattle.promises.proofs.Showing.Shows.{Shown}
 use Rattle.promises.proofs.Showing.Tests.{neither}
 use Rattle.promises.proofs.Lists.AtRest.{rest-sound}
@@ -109,7 +111,7 @@ module _ (workers : ℕ) (m : Moment) (X : Conf) (h : Held workers m X) (most : 
       choice = sweeps (after .world);
       held = rw accepted (record {
         shows = after .shows;
-        fine = rw accepted at (act-fine6 X (h .fine) (sweeps (after .world)) (λ W q g. let z = honest W q in (z .0, z .1)));
+        fine = rw accepted at (act-fine X (h .fine) (sweeps (after .world)) (λ W q g. let z = honest W q in (z .0, z .1)));
         counted = h .counted;
         eight = h .eight;
         shown = shown-at;

@@ -18,13 +18,13 @@ use Rattle.catalogue.specs.Steps.Places.{code-known, key-refused, first-place}
 use Rattle.catalogue.specs.declared.answers.Refusal.the-variants as refusal
 use Rattle.catalogue.specs.declared.answers.Answer.the-variants as answer
 use Rattle.catalogue.specs.declared.workers.Worker.{Worker}
-use Rattle.catalogue.proofs.Picks.{pick-both}
-use Rattle.row.specs.Base.{clash}
-use Rattle.row.specs.LiveSet.{eqZ-yes, not-below}
-use Rattle.row.specs.Machine.{addV, remV, conV}
-use Rattle.row.specs.World.{World, vert, addE, remE, conE, resting, Conf, takes, act, starts, allowed, takable, fits-key}
-use Rattle.row.specs.World
-use Rattle.row.specs.Course.{Fine6, act-fine6}
+use Rattle.catalogue.proofs.Picks.{pick-both, clash}
+use Rattle.row.specs.Tests.{eqZ-yes, not-below}
+use Rattle.row.specs.Machine.Vertices.{addV, remV, conV}
+use Rattle.row.specs.Machine.World.{World, vert, addE, remE, conE}
+use Rattle.row.specs.Machine.Runs.{resting, Conf, takes, act, starts, allowed, takable, fits-key}
+use Rattle.row.specs.Machine.World
+use Rattle.row.specs.Runs.Course.{Fine, act-fine}
 use Rattle.promises.specs.Moments.{Key}
 use Rattle.promises.specs.Alone.{Ask, ask-of}
 use Rattle.promises.specs.Histories.{accepted}
@@ -115,9 +115,9 @@ module _ (workers : ℕ) (m : Moment) (X : Conf) (h : Held workers m X) (most : 
   }
 
   -- the machine takes up what it may
-  taking : (q : World.Ask) → takable (X .at) v q ≡ true → (Fine6 (begins q) → Held workers (record { catalogue = m .catalogue; table = going .table }) (begins q))
+  taking : (q : World.Ask) → takable (X .at) v q ≡ true → (Fine (begins q) → Held workers (record { catalogue = m .catalogue; table = going .table }) (begins q))
       → Held workers (record { catalogue = m .catalogue; table = going .table }) (act X (takes v q))
-  taking q free f = rw free (f (rw free at (act-fine6 X (h .fine) (takes v q) (λ W e g. clash (cc)))))
+  taking q free f = rw free (f (rw free at (act-fine X (h .fine) (takes v q) (λ W e g. clash (cc)))))
 
   -- by an idle worker of the table
   begun : v < workers → busy (m .table) v ≡ false → code-known code ≡ true → key-refused code k l ≡ false → Done workers X taking-up going

@@ -2,11 +2,13 @@
 use Prim.Native.Nat.{ℕ}
 use mathlib.Core.Option.{Option, none, some}
 use mathlib.Core.Path.{_≡_}
-use Rattle.row.specs.Row.{Call}
-use Rattle.row.specs.Machine.{addV, remV, conV}
-use Rattle.row.specs.World.{World, vert, addE, remE, conE, move, Conf, Choice, takes, steps, sweeps, opens, Began, close, graph, Untried}
-use Rattle.row.specs.World
-use Rattle.row.specs.Graph.{WGood}
+use Rattle.row.specs.Rows.Row.{Call}
+use Rattle.row.specs.Machine.Vertices.{addV, remV, conV}
+use Rattle.row.specs.Machine.World.{World, vert, addE, remE, conE, graph, Untried}
+use Rattle.row.specs.Machine.Moves.{move}
+use Rattle.row.specs.Machine.Runs.{Conf, Choice, takes, steps, sweeps, opens, Began, close}
+use Rattle.row.specs.Machine.World
+use Rattle.row.specs.Graphs.Good.{WGood}
 use Rattle.promises.specs.Graphs.{Graph}
 use Rattle.promises.specs.Alone.{Ask, AddV, RemV, ConV, AddE, RemE, ConE}
 use Rattle.promises.specs.Histories.{Begun}

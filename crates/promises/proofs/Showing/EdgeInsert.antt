@@ -12,8 +12,8 @@ use Rattle.catalogue.specs.Steps.Edges.{relink, insert}
 use Rattle.catalogue.specs.declared.links.EdgeLink.the-variants as edge
 use Rattle.catalogue.specs.declared.links.Target.the-variants as target
 use Rattle.row.specs.Base.{upd-same, upd-other, same?}
-use Rattle.row.specs.Edges.{Tag, transit, Prev, head, at, Edges, link, einsert}
-use Rattle.row.specs.World.{World, with-e}
+use Rattle.row.specs.Lists.Edges.{Tag, transit, Prev, head, at, Edges, link, einsert}
+use Rattle.row.specs.Machine.World.{World, with-e}
 use Rattle.promises.proofs.Showing.Shows.{Shows, prev-of, edge-tag-of}
 use Rattle.promises.proofs.Showing.EdgeLinks.{Behind, tag-behind, shows-relink}
 use Rattle.promises.proofs.Showing.Written.{edge-there, edge-else, ekey-there, ekey-else, target-there, target-else}

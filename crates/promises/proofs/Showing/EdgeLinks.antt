@@ -13,8 +13,8 @@ use Rattle.catalogue.specs.declared.links.EdgeLink.the-variants as edge
 use Rattle.catalogue.specs.declared.writes.Write.the-variants.{EdgeLink}
 use Rattle.catalogue.proofs.Leads.{edge-next-in, first-next-in}
 use Rattle.row.specs.Base.{upd-same, upd-other, same?}
-use Rattle.row.specs.Edges.{Tag, Prev, head, at, Edges, link, put-first, put-next, eunlink, retag}
-use Rattle.row.specs.World.{World, with-e}
+use Rattle.row.specs.Lists.Edges.{Tag, Prev, head, at, Edges, link, put-first, put-next, eunlink, retag}
+use Rattle.row.specs.Machine.World.{World, with-e}
 use Rattle.promises.proofs.Showing.Shows.{Shows, Series, prev-of, edge-tag-of}
 use Rattle.promises.proofs.Showing.Pools.{edges-in-pool}
 use Rattle.promises.proofs.Showing.Turned.{Turned, another-tag, another-next}

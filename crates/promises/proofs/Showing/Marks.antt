@@ -8,8 +8,8 @@ use Rattle.catalogue.specs.Tests.{pick}
 use Rattle.catalogue.specs.Catalogue.{Catalogue, vertex-link, at-mark}
 use Rattle.catalogue.specs.Steps.Both.{see-both, at-both}
 use Rattle.catalogue.specs.declared.steps.BothSeen.the-variants as both
-use Rattle.row.specs.Edges.{Tag, marked, transit, added, is-marked}
-use Rattle.row.specs.World.{World}
+use Rattle.row.specs.Lists.Edges.{Tag, marked, transit, added, is-marked}
+use Rattle.row.specs.Machine.World.{World}
 use Rattle.promises.proofs.Showing.Shows.{Shows, Series, vertex-tag-of, edge-tag-of}
 use Rattle.promises.proofs.Showing.Tests.{pick-or}
 

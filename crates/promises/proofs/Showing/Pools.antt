@@ -10,9 +10,10 @@ use Rattle.catalogue.specs.Catalogue.{Catalogue}
 use Rattle.catalogue.specs.declared.links.Room.{Room}
 use Rattle.catalogue.specs.declared.links.Room.the-variants as room
 use Rattle.catalogue.proofs.Picks.{pick-both}
-use Rattle.row.specs.Graph.{IsV, WGood}
-use Rattle.row.specs.Store.{Cat}
-use Rattle.row.specs.World.{World}
+use Rattle.row.specs.Graphs.Good.{WGood}
+use Rattle.row.specs.Graphs.Graph.{IsV}
+use Rattle.row.specs.Lists.Store.{Cat}
+use Rattle.row.specs.Machine.World.{World}
 use Rattle.promises.proofs.Showing.Shows.{Shows, Series}
 
 module _ (limit lowest count : ℕ) where

@@ -23,11 +23,11 @@ use Rattle.catalogue.specs.declared.workers.Place.the-variants as place
 use Rattle.catalogue.specs.declared.workers.Prev.{Prev}
 use Rattle.catalogue.specs.declared.workers.Prev.the-variants as prev
 use Rattle.catalogue.specs.declared.workers.Worker.{Worker}
-use Rattle.row.specs.Machine.{Idle, AddV, RemV, ConV}
-use Rattle.row.specs.Edges.{Tag, marked, transit, added, head, at}
-use Rattle.row.specs.Edges
-use Rattle.row.specs.World.{World, adds, rems, cons, Opened, closed, opened, Hunt, Spot, Rest, Vert, FindU, FindV, LookE, ConE, Trial, Next}
-use Rattle.row.specs.Deeds.{Mem}
+use Rattle.row.specs.Machine.Vertices.{Idle, AddV, RemV, ConV}
+use Rattle.row.specs.Lists.Edges.{Tag, marked, transit, added, head, at}
+use Rattle.row.specs.Lists.Edges
+use Rattle.row.specs.Machine.World.{World, adds, rems, cons, Opened, closed, opened, Hunt, Spot, Rest, Vert, FindU, FindV, LookE, ConE, Trial, Next}
+use Rattle.row.specs.Steps.Spots.{Mem}
 use Rattle.promises.specs.Bounds.{total}
 use Rattle.promises.proofs.Showing.Weighing.{weigh}
 

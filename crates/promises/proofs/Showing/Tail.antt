@@ -5,10 +5,10 @@ use mathlib.Core.Logic.{_⊎_, inl, inr}
 use lib.IntN.{ℤ}
 use lib.Signed.{_<ℤ_, <ℤ-irrefl}
 use Rattle.row.specs.Base.{<ℤ-trans}
-use Rattle.row.specs.Does.{Legal}
-use Rattle.row.specs.Edges.{at, Edges, InList, Mine}
-use Rattle.row.specs.Graph.{WGood}
-use Rattle.row.specs.World.{World}
+use Rattle.row.specs.Steps.VertexDeeds.{Legal}
+use Rattle.row.specs.Lists.Edges.{at, Edges, InList, Mine}
+use Rattle.row.specs.Graphs.Good.{WGood}
+use Rattle.row.specs.Machine.World.{World}
 
 pub no-tail : (E : Edges) (x c : ℕ) → Mine E x (at c) → (c ≡ 0 → ⊥) → InList E x c
 no-tail E x c (inl z) n = absurd (n z)

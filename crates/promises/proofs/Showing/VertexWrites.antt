@@ -13,11 +13,12 @@ use Rattle.catalogue.specs.declared.links.VertexLink.the-variants as vertex
 use Rattle.catalogue.specs.declared.links.EdgeLink.the-variants as edge
 use Rattle.catalogue.specs.declared.writes.Write.the-variants.{VertexLink, NewVertex}
 use Rattle.catalogue.proofs.Leads.{vertex-next-in}
-use Rattle.row.specs.Base.{upd-same, upd-other, same?, clash}
-use Rattle.row.specs.Edges.{head}
-use Rattle.row.specs.Graph.{WGood}
-use Rattle.row.specs.Store.{Cat, insert, unlink, mark, Inner}
-use Rattle.row.specs.World.{World}
+use Rattle.catalogue.proofs.Picks.{clash}
+use Rattle.row.specs.Base.{upd-same, upd-other, same?}
+use Rattle.row.specs.Lists.Edges.{head}
+use Rattle.row.specs.Graphs.Good.{WGood}
+use Rattle.row.specs.Lists.Store.{Cat, insert, unlink, mark, Inner}
+use Rattle.row.specs.Machine.World.{World}
 use Rattle.promises.proofs.Showing.Shows.{Shows, vertex-tag-of}
 use Rattle.promises.proofs.Showing.Turned.{Turned, another-tag, another-next}
 use Rattle.promises.proofs.Showing.Written.{vertex-there, vertex-else, first-there, first-else, vkey-there, vkey-else}

@@ -12,7 +12,7 @@ use Rattle.catalogue.specs.declared.links.VertexLink.the-variants as vertex
 use Rattle.catalogue.specs.declared.links.EdgeLink.the-variants as edge
 use Rattle.catalogue.specs.declared.links.Target.the-variants as target
 use Rattle.row.specs.Base.{upd-same, upd-other}
-use Rattle.row.specs.Edges.{Tag, marked, transit, added}
+use Rattle.row.specs.Lists.Edges.{Tag, marked, transit, added}
 use Rattle.promises.proofs.Showing.Shows.{vertex-tag-of, edge-tag-of}
 
 -- a link taken apart is its node and its tag

@@ -22,12 +22,13 @@ use Rattle.catalogue.specs.declared.workers.Place.the-variants as place
 use Rattle.catalogue.specs.declared.workers.Worker.{Worker}
 use Rattle.catalogue.specs.declared.writes.Write.the-variants.{Nothing}
 use Rattle.row.specs.Base.{ltZ-true}
-use Rattle.row.specs.Deeds.{Pair}
-use Rattle.row.specs.Edges.{Tag, at, Mine}
-use Rattle.row.specs.Edges
-use Rattle.row.specs.Graph.{WGood}
-use Rattle.row.specs.LiveSet.{eqZ-true}
-use Rattle.row.specs.World.{World, ConE, goes, says, is-added, move}
+use Rattle.row.specs.Steps.Spots.{Pair}
+use Rattle.row.specs.Lists.Edges.{Tag, at, Mine}
+use Rattle.row.specs.Lists.Edges
+use Rattle.row.specs.Graphs.Good.{WGood}
+use Rattle.catalogue.proofs.Rules.{eqZ-eq}
+use Rattle.row.specs.Machine.World.{World, ConE, goes, says, is-added}
+use Rattle.row.specs.Machine.Moves.{move}
 use Rattle.promises.proofs.Showing.Shows.{Shows, Asked, Follows, edge-tag-of}
 use Rattle.promises.proofs.Showing.Marks.{both-seen}
 use Rattle.promises.proofs.Showing.Pools.{edges-in-pool, series-of}
@@ -96,7 +97,7 @@ module _ (C : Catalogue) (W : World) (s : Shows C W) (g : WGood W) (k l : ℤ) (
         by true q e f d =
             walks-on C W s w (place.ConE k l u v (W .e .next c)) (ConE k l u v (W .e .next c))
             (d ∙ rw (s .elinks c (inner (inl (ltZ-true (W .e .key c) l e))) handed)) a refl
-        by false true e f d = says-number dead leads (d ∙ settles (inner (inr (eqZ-true (W .e .key c) l f))))
+        by false true e f d = says-number dead leads (d ∙ settles (inner (inr (eqZ-eq (W .e .key c) l f))))
         by false false e f d = says-number dead false (d ∙ eight dead)
           where
             eight : (x : Bool) → decision.Reply 8 Nothing ≡ decision.Reply (number x false) Nothing

@@ -15,14 +15,15 @@ use Rattle.catalogue.specs.declared.workers.Place.{Place}
 use Rattle.catalogue.specs.declared.workers.Worker.{Worker}
 use Rattle.catalogue.specs.declared.writes.Write.{Write}
 use Rattle.catalogue.specs.declared.writes.Write.the-variants.{Nothing}
-use Rattle.row.specs.Deeds.{Ok6}
-use Rattle.row.specs.Graph.{WGood}
-use Rattle.row.specs.World.{World, Spot, Rest, Next, goes, says, move}
+use Rattle.row.specs.Steps.Spots.{Ok}
+use Rattle.row.specs.Graphs.Good.{WGood}
+use Rattle.row.specs.Machine.World.{World, Spot, Rest, Next, goes, says}
+use Rattle.row.specs.Machine.Moves.{move}
 use Rattle.promises.proofs.Showing.Shows.{Shows, Stands, Asked, Shown, Follows}
 
 -- One step at a spot is one move, of any worker that stands there in a good world.
 abbrev pub FollowsAt : Spot → Type 0
-FollowsAt spot = (C : Catalogue) (W : World) → Shows C W → WGood W → (w : Worker) → Ok6 W spot → Shown (W .v .used) w spot → Follows C w (move W spot)
+FollowsAt spot = (C : Catalogue) (W : World) → Shows C W → WGood W → (w : Worker) → Ok W spot → Shown (W .v .used) w spot → Follows C w (move W spot)
 
 -- what a worker decides at a place with allowed keys
 abbrev pub step-of : Catalogue → Worker → Place → Decision

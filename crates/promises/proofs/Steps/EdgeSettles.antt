@@ -15,9 +15,11 @@ use Rattle.catalogue.specs.declared.steps.Decision.the-variants.{Begins}
 use Rattle.catalogue.specs.declared.workers.Place.the-variants as place
 use Rattle.catalogue.specs.declared.workers.Worker.{Worker}
 use Rattle.catalogue.specs.declared.writes.Write.the-variants as write
-use Rattle.row.specs.Base.{lt-or, clash}
-use Rattle.row.specs.Edges.{Tag, marked, transit, added, Prev, at, is-marked, link, einsert, retag}
-use Rattle.row.specs.World.{World, Trial, goes, hunt-from, with-e, settles}
+use Rattle.catalogue.proofs.Picks.{clash}
+use Rattle.row.specs.Base.{lt-or}
+use Rattle.row.specs.Lists.Edges.{Tag, marked, transit, added, Prev, at, is-marked, link, einsert, retag}
+use Rattle.row.specs.Machine.World.{World, Trial, goes, hunt-from, with-e}
+use Rattle.row.specs.Machine.Moves.{settles}
 use Rattle.promises.proofs.Showing.Shows.{Shows, Series, Follows, prev-of, edge-tag-of}
 use Rattle.promises.proofs.Showing.Pools.{room-left, room-full, vertices-in-pool}
 use Rattle.promises.proofs.Showing.EdgeLinks.{Out, Behind, tag-behind, shows-retag}

@@ -15,8 +15,9 @@ use Rattle.catalogue.specs.declared.workers.Place.the-variants as place
 use Rattle.catalogue.specs.declared.workers.Worker.{Worker}
 use Rattle.catalogue.specs.declared.writes.Write.{Write}
 use Rattle.catalogue.specs.declared.writes.Write.the-variants as write
-use Rattle.row.specs.Edges.{marked, Prev, head, at, eunlink, retag}
-use Rattle.row.specs.World.{World, ESeen, LookE, goes, with-e, look-e, elook}
+use Rattle.row.specs.Lists.Edges.{marked, Prev, head, at, eunlink, retag}
+use Rattle.row.specs.Machine.World.{World, LookE, goes, with-e}
+use Rattle.row.specs.Machine.Moves.{ESeen, look-e, elook}
 use Rattle.promises.proofs.Showing.Shows.{Shows, Series, Shown, Follows, prev-of}
 use Rattle.promises.proofs.Showing.Pools.{series-of}
 use Rattle.promises.proofs.Showing.EdgeLinks.{Behind, tag-behind, first-fits, next-fits, shows-retag, shows-unlink}

@@ -15,9 +15,11 @@ use Rattle.catalogue.specs.declared.workers.Place.the-variants as place
 use Rattle.catalogue.specs.declared.workers.Prev.the-variants as prev
 use Rattle.catalogue.specs.declared.workers.Worker.{Worker}
 use Rattle.catalogue.specs.declared.writes.Write.the-variants.{Nothing}
-use Rattle.row.specs.Edges.{head}
-use Rattle.row.specs.Graph.{WGood, IsV}
-use Rattle.row.specs.World.{World, Kind, adds, rems, cons, FindU, FindV, LookE, ConE, goes, says, VSeen, lower, found, missing, vlook, lost, look-at, find-u, find-v}
+use Rattle.row.specs.Lists.Edges.{head}
+use Rattle.row.specs.Graphs.Good.{WGood}
+use Rattle.row.specs.Graphs.Graph.{IsV}
+use Rattle.row.specs.Machine.World.{World, Kind, adds, rems, cons, FindU, FindV, LookE, ConE, goes, says}
+use Rattle.row.specs.Machine.Moves.{VSeen, lower, found, missing, vlook, lost, look-at, find-u, find-v}
 use Rattle.promises.proofs.Showing.Shows.{Shows, Shown, Follows}
 use Rattle.promises.proofs.Showing.EdgeLinks.{first-fits}
 use Rattle.promises.proofs.Showing.Pools.{series-of}

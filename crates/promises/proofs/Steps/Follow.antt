@@ -1,6 +1,6 @@
 -- One step of document 01, at any spot but rest, is one move of the machine of `row`. Assumes nothing.
 use mathlib.Core.Path.{_≡_, refl}
-use Rattle.row.specs.World.{Spot, Rest, Vert, FindU, FindV, LookE, ConE, Trial}
+use Rattle.row.specs.Machine.World.{Spot, Rest, Vert, FindU, FindV, LookE, ConE, Trial}
 use Rattle.promises.proofs.Steps.Deciding.{FollowsAt}
 use Rattle.promises.proofs.Steps.VertexSteps.{vertex-follows}
 use Rattle.promises.proofs.Steps.FindSteps.{find-u-follows, find-v-follows}

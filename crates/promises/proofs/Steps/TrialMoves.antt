@@ -13,8 +13,8 @@ use Rattle.catalogue.specs.declared.steps.Decision.the-variants as decision
 use Rattle.catalogue.specs.declared.workers.Place.{Place}
 use Rattle.catalogue.specs.declared.workers.Worker.{Worker}
 use Rattle.catalogue.specs.declared.writes.Write.the-variants.{EdgeLink}
-use Rattle.row.specs.Edges.{Tag, retag}
-use Rattle.row.specs.World.{World, with-e, Opened, closed, opened, Hunt, stands-at, meets, took, Trial, goes, says}
+use Rattle.row.specs.Lists.Edges.{Tag, retag}
+use Rattle.row.specs.Machine.World.{World, with-e, Opened, closed, opened, Hunt, stands-at, meets, took, Trial, goes, says}
 use Rattle.promises.proofs.Showing.Shows.{Shows, Series, Open, Hunted, Asked, Follows, edge-tag-of, trial-place}
 use Rattle.promises.proofs.Showing.Pools.{vertices-in-pool}
 use Rattle.promises.proofs.Showing.EdgeLinks.{shows-retag}

@@ -19,10 +19,11 @@ use Rattle.catalogue.specs.declared.steps.Decision.the-variants.{Torn, Keeps, M
 use Rattle.catalogue.specs.declared.workers.Place.{Place}
 use Rattle.catalogue.specs.declared.workers.Worker.{Worker}
 use Rattle.catalogue.proofs.Picks.{clash}
-use Rattle.row.specs.Edges.{marked, added, at, is-marked, InList, Mine}
-use Rattle.row.specs.World.{World, Opened, closed, opened, Hunt, Trial, hunt-open, hunt-take, hunts, trial}
-use Rattle.row.specs.Graph.{WGood}
-use Rattle.row.specs.Deeds.{Ok6}
+use Rattle.row.specs.Lists.Edges.{marked, added, at, is-marked, InList, Mine}
+use Rattle.row.specs.Machine.World.{World, Opened, closed, opened, Hunt, Trial}
+use Rattle.row.specs.Machine.Moves.{hunt-open, hunt-take, hunts, trial}
+use Rattle.row.specs.Graphs.Good.{WGood}
+use Rattle.row.specs.Steps.Spots.{Ok}
 use Rattle.promises.proofs.Showing.Shows.{Shows, Series, Hunted, Asked, Follows, trial-place}
 use Rattle.promises.proofs.Showing.Tests.{pick-cond, pick-or, pick-unless, or-false}
 use Rattle.promises.proofs.Showing.Marks.{edge-is-marked, mark-seen, both-seen, at-both-cond}
@@ -43,7 +44,7 @@ neither-nor false false true e = clash (cc)
 neither-nor false false false e = refl
 
 module _ (C : Catalogue) (W : World) (s : Shows C W) (g : WGood W) (w : Worker) (k l : ℤ) (u v e : ℕ) (h : Hunt)
-    (ok : Ok6 W (Trial k l u v e h)) (keys : key-refused 4 k l ≡ false) (r : Hunted (W .v .used) w h) where
+    (ok : Ok W (Trial k l u v e h)) (keys : key-refused 4 k l ≡ false) (r : Hunted (W .v .used) w h) where
   abbrev used : ℕ
   used = W .v .used
 

@@ -18,12 +18,14 @@ use Rattle.catalogue.specs.declared.steps.VertexSeen.{VertexSeen}
 use Rattle.catalogue.specs.declared.steps.VertexSeen.the-variants as seen
 use Rattle.catalogue.specs.declared.steps.VertexFound.{VertexFound}
 use Rattle.catalogue.specs.declared.steps.VertexFound.the-variants as finds
-use Rattle.row.specs.Base.{same?, clash, ltZ-true}
-use Rattle.row.specs.Does.{Legal, Aims, Good, not-tail}
-use Rattle.row.specs.LiveSet.{eqZ-true}
-use Rattle.row.specs.Machine.{Seen, again, passes, onward, settle, look}
-use Rattle.row.specs.Store.{Cat, Inner}
-use Rattle.row.specs.World.{World, VSeen, lower, found, missing, vlook}
+use Rattle.catalogue.proofs.Picks.{clash}
+use Rattle.row.specs.Base.{same?, ltZ-true}
+use Rattle.row.specs.Steps.VertexDeeds.{Legal, Aims, not-tail}
+use Rattle.catalogue.proofs.Rules.{eqZ-eq}
+use Rattle.row.specs.Machine.Vertices.{Seen, again, passes, onward, settle, look}
+use Rattle.row.specs.Lists.Store.{Cat, Inner, Good}
+use Rattle.row.specs.Machine.World.{World}
+use Rattle.row.specs.Machine.Moves.{VSeen, lower, found, missing, vlook}
 use Rattle.promises.proofs.Showing.Shows.{Shows, vertex-tag-of}
 
 -- A vertex's link: its mark, and where it leads. The tail's leads nowhere in the world.
@@ -76,7 +78,7 @@ module _ (C : Catalogue) (W : World) (s : Shows C W) (g : Good (W .v)) where
     lower-inner c e = not-tail D g k legal {c = c} (inl (ltZ-true (D .key c) k e))
 
     equal-inner : (c : ℕ) → eqZ (D .key c) k ≡ true → c ≡ 1 → ⊥
-    equal-inner c e = not-tail D g k legal {c = c} (inr (eqZ-true (D .key c) k e))
+    equal-inner c e = not-tail D g k legal {c = c} (inr (eqZ-eq (D .key c) k e))
 
     module _ (c : ℕ) (h : c < D .used) (r : Reads C W c) where
       seeks : Sought D k c (look-for C k c) (vlook D k c)

@@ -27,10 +27,11 @@ use Rattle.catalogue.specs.declared.workers.Worker.{Worker}
 use Rattle.catalogue.specs.declared.writes.Write.{Write}
 use Rattle.catalogue.specs.declared.writes.Write.the-variants.{Nothing, VertexLink, NewVertex}
 use Rattle.row.specs.Base.{lt-or}
-use Rattle.row.specs.Graph.{WGood}
-use Rattle.row.specs.Machine.{Place, Idle, AddV, RemV, ConV, Out, going, replies, Seen, again, passes, onward, settle, look, add, rem, step}
-use Rattle.row.specs.Store.{Cat, insert, unlink, mark, Inner}
-use Rattle.row.specs.World.{World, Vert, goes, vmove, VSeen, lower, found, missing, vlook}
+use Rattle.row.specs.Graphs.Good.{WGood}
+use Rattle.row.specs.Machine.Vertices.{Place, Idle, AddV, RemV, ConV, Out, going, replies, Seen, again, passes, onward, settle, look, add, rem, step}
+use Rattle.row.specs.Lists.Store.{Cat, insert, unlink, mark, Inner}
+use Rattle.row.specs.Machine.World.{World, Vert, goes}
+use Rattle.row.specs.Machine.Moves.{vmove, VSeen, lower, found, missing, vlook}
 use Rattle.promises.proofs.Showing.Shows.{Shows, Follows}
 use Rattle.promises.proofs.Steps.Deciding.{FollowsAt, decides, goes-on, ends, unwritten, walks-on, says-so}
 use Rattle.promises.proofs.Steps.VertexLooks.{Looked, sees-again, sees-gone, sees-lower, sees-equal, sees-above, looked}

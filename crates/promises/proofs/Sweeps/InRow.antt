@@ -11,7 +11,7 @@ use Rattle.catalogue.proofs.Picks.{pick-both}
 use Rattle.resting.specs.Members.{All}
 use Rattle.resting.specs.Rows.{row}
 use Rattle.row.specs.Base.{same?, lt-or}
-use Rattle.row.specs.Links.{Run, stop, go, run-trans, View, Follows, Sorted}
+use Rattle.row.specs.Lists.Links.{Run, stop, go, run-trans, View, Follows, Sorted}
 use Rattle.promises.proofs.Lists.Members.{Among}
 
 -- what holds of a row holds of each of its numbers

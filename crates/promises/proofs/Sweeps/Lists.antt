@@ -17,17 +17,17 @@ use Rattle.catalogue.specs.Live.{first-edge, next-edge, edges-of, live-vertices
 use Rattle.catalogue.specs.Soundness.{Asks, tag-fits, target-sound, edge-sound, edges-sound, sound}
 use Rattle.catalogue.specs.Sweep.{swept}
 use Rattle.catalogue.specs.declared.links.EdgeLink.{EdgeLink}
-use Rattle.catalogue.proofs.Picks.{pick-both}
+use Rattle.catalogue.proofs.Picks.{pick-both, clash}
 use Rattle.resting.specs.Members.{All, every-all}
 use Rattle.resting.specs.Rows.{row}
 use Rattle.resting.specs.Sound.{edge-rises, whole, lists-sound}
 use Rattle.resting.specs.Shape.{live-row}
 use Rattle.resting.specs.Shares.{start, shares-length, row-low, link-row, first-link-row, edges-row}
 use Rattle.resting.specs.Kept.{edge-source, edge-aim}
-use Rattle.row.specs.Base.{clash, lt-or}
-use Rattle.row.specs.Links.{Sorted}
-use Rattle.row.specs.Edges.{Edges, Prev, head, at, Mine, eview, ESound}
-use Rattle.row.specs.Graph.{Ends}
+use Rattle.row.specs.Base.{lt-or}
+use Rattle.row.specs.Lists.Links.{Sorted}
+use Rattle.row.specs.Lists.Edges.{Edges, Prev, head, at, Mine, eview, ESound}
+use Rattle.row.specs.Graphs.Good.{Ends}
 use Rattle.promises.proofs.Sweeps.InRow.{all-in-row, Place, first, final, inner, Row, row-sorted}
 use Rattle.promises.proofs.Sweeps.Owners.{owner-is, owned-by}
 use Rattle.promises.proofs.Sweeps.Vertices.{above-least}

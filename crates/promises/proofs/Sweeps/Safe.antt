@@ -14,7 +14,7 @@ use Rattle.catalogue.specs.Sweep.{swept}
 use Rattle.resting.specs.Shape.{live-row}
 use Rattle.resting.specs.Shares.{start, edges-row}
 use Rattle.resting.specs.Kept.{same-edges, edge-source, edge-live}
-use Rattle.row.specs.Older.{Trail, end, via, LiveE, Safe}
+use Rattle.row.specs.Graphs.Older.{Trail, end, via, LiveE, Safe}
 use Rattle.promises.proofs.Lists.Chains.{Listed, Derived, Chain, last, more}
 use Rattle.promises.proofs.Lists.Members.{Among, kept, mapped, gathered}
 use Rattle.promises.proofs.Lists.Printed.{listed}

@@ -19,8 +19,7 @@ use Rattle.resting.specs.Vertices.{live-few, live-over}
 use Rattle.resting.specs.Reads.{head-at, vertex-at, head-key}
 use Rattle.resting.specs.Shape.{vertices-row, live-row}
 use Rattle.row.specs.Base.{same?}
-use Rattle.row.specs.Store.{view}
-use Rattle.row.specs.Does.{Good}
+use Rattle.row.specs.Lists.Store.{view, Good}
 use Rattle.promises.proofs.Sweeps.InRow.{all-in-row, first, final, inner, Row, row-sorted}
 use Rattle.promises.proofs.Sweeps.World.{count, swept-world}
 

@@ -9,10 +9,10 @@ use Rattle.catalogue.specs.Listing.{vertex-lines, edge-lines}
 use Rattle.catalogue.specs.Soundness.{sweep, sound}
 use Rattle.catalogue.specs.Sweep.{swept}
 use Rattle.resting.specs.Kept.{same-vertices, same-edges, swept-sound}
-use Rattle.row.specs.Machine.{live}
-use Rattle.row.specs.LiveSet.{bool-iff}
-use Rattle.row.specs.World.{World, Untried, graph, edges}
-use Rattle.row.specs.Graph.{WGood}
+use Rattle.row.specs.Machine.Vertices.{live}
+use Rattle.row.specs.Tests.{bool-iff}
+use Rattle.row.specs.Machine.World.{World, Untried, graph, edges}
+use Rattle.row.specs.Graphs.Good.{WGood}
 use Rattle.promises.proofs.Showing.Shows.{Shows}
 use Rattle.promises.proofs.Lists.AtRest.{rest-sound}
 use Rattle.promises.proofs.Lists.Printed.{vertex-read, vertex-printed, reading, printed, no-chain}
