@@ -23,7 +23,7 @@ use Rattle.catalogue.specs.declared.workers.Place.{Place}
 use Rattle.catalogue.specs.declared.workers.Table.{Table}
 use Rattle.catalogue.specs.declared.workers.Worker.{Worker}
 use Rattle.catalogue.proofs.Picks.{both-true}
-use Rattle.catalogue.proofs.Ways.{ways}
+use Rattle.catalogue.proofs.Ways.{flag, ways}
 use Rattle.memory.proofs.Sizes.{size-flag}
 
 -- ---- what the checks give
@@ -40,9 +40,6 @@ pub below-flag : (count w : ℕ) (r : Bool) → r ≡ worker-fits count w → r 
 below-flag count w r e q = worker-below count w (sym e ∙ q)
 
 -- ---- the flags in the definitions
-
-flag : (a r t : Bool) → r ≡ a → r ≡ t → a ≡ t
-flag a r t e q = sym e ∙ q
 
 pub range-flag : (most n : ℕ) (r t : Bool) → r ≡ one-to most n → r ≡ t → one-to most n ≡ t
 range-flag most n = flag (one-to most n)

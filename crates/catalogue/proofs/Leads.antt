@@ -5,13 +5,13 @@ use mathlib.Core.Path.{_≡_, subst}
 use borrow.Author.Tests.{ltb-true}
 use native.Mathlib.Omega.{arith}
 use lib.Dec.{ltb, eqb}
-use Rattle.catalogue.specs.Numbers.{vertex-pool, edge-pool, vertex-tag, edge-tag, first-tag, apart}
-use Rattle.catalogue.specs.Catalogue.{vertex-link-in, edge-link-in, first-link-in}
+use Rattle.catalogue.specs.Numbers.{tail, edge-tail, vertex-pool, edge-pool, vertex-tag, edge-tag, first-tag, apart}
+use Rattle.catalogue.specs.Catalogue.{vertex-link-in, edge-link-in, first-link-in, at-vertex, at-edge}
 use Rattle.catalogue.specs.declared.links.VertexLink.{VertexLink}
 use Rattle.catalogue.specs.declared.links.VertexLink.the-variants as vertex
 use Rattle.catalogue.specs.declared.links.EdgeLink.{EdgeLink}
 use Rattle.catalogue.specs.declared.links.EdgeLink.the-variants as edge
-use Rattle.catalogue.proofs.Picks.{pick-both}
+use Rattle.catalogue.proofs.Picks.{pick-both, vertex-both, edge-both}
 
 -- a word taken apart, where the node lies in its pool
 pub apart-both : {A : Type 0} (P : A → Type 0) (pool : ℕ) (allowed : ℕ → Bool) (word : ℕ) (torn : A) (at : ℕ → ℕ → A)
@@ -55,3 +55,14 @@ module _ (words : ℕ → ℕ) (n next tag : ℕ) where
 
   pub vertex-next-in : vertex-link-in words n ≡ vertex.At next tag → next < 256
   vertex-next-in e = subst To-vertex e (vertex-leads words n)
+
+-- where a walk goes on, which is to the end where the link is torn
+module _ (words : ℕ → ℕ) (n : ℕ) where
+  pub vertex-goes : at-vertex (vertex-link-in words n) tail (λ next tag. next) < vertex-pool
+  vertex-goes = vertex-both (λ m. m < 256) (vertex-link-in words n) tail (λ next tag. next) (omega arith) (vertex-next-in words n)
+
+  pub edge-goes : at-edge (edge-link-in words n) edge-tail (λ next tag. next) < edge-pool
+  edge-goes = edge-both (λ m. m < 2048) (edge-link-in words n) edge-tail (λ next tag. next) (omega arith) (edge-next-in words n)
+
+  pub first-goes : at-edge (first-link-in words n) edge-tail (λ next tag. next) < edge-pool
+  first-goes = edge-both (λ m. m < 2048) (first-link-in words n) edge-tail (λ next tag. next) (omega arith) (first-next-in words n)

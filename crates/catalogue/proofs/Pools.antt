@@ -1,18 +1,20 @@
 -- Numbers that were read, or handed out, lie in their pools. Assumes nothing.
 use Prim.Native.Nat.{ℕ, _+_, _<_, _≤_, _/_, _%_}
-use mathlib.Core.Path.{_≡_, sym, _∙_, subst}
+use mathlib.Core.Bool.{true, false}
+use mathlib.Core.Path.{_≡_, refl, sym, _∙_, subst}
 use native.Mathlib.Omega.{arith}
 use borrow.Author.Tests.{ltb-true}
 use mir.Syntax.{w8}
 use mir.Val.{Fits}
 use lib.Dec.{ltb, eqb}
-use Rattle.catalogue.specs.Numbers.{room, edge-tag}
-use Rattle.catalogue.specs.Catalogue.{edge-link-in}
+use Rattle.catalogue.specs.Numbers.{edge-pool, room, edge-tag}
+use Rattle.catalogue.specs.Catalogue.{Catalogue, edge-link-in, edge-link}
+use Rattle.catalogue.specs.Live.{is-added, is-live}
 use Rattle.catalogue.specs.declared.links.EdgeLink.{EdgeLink}
 use Rattle.catalogue.specs.declared.links.EdgeLink.the-variants as edge
 use Rattle.catalogue.specs.declared.links.Room.{Room}
 use Rattle.catalogue.specs.declared.links.Room.the-variants as room
-use Rattle.catalogue.proofs.Picks.{pick-both}
+use Rattle.catalogue.proofs.Picks.{clash, both-true, pick-both, edge-both}
 
 -- an edge whose link was read whole
 abbrev Linked : ℕ → EdgeLink → Type 0
@@ -31,6 +33,15 @@ linked words n =
 
 pub edge-in-pool : (words : ℕ → ℕ) (n next tag : ℕ) (r : EdgeLink) → r ≡ edge-link-in words n → r ≡ edge.At next tag → n < 2048
 edge-in-pool words n next tag r e q = subst (Linked n) (sym e ∙ q) (linked words n)
+
+-- an edge that is ADDED, or live
+pub added-in : (C : Catalogue) (e : ℕ) → is-added C e ≡ true → e < edge-pool
+added-in C e =
+    edge-both (λ b. b ≡ true → e < edge-pool) (edge-link C e) false _ (λ h. clash (cc))
+    (λ next tag q h. edge-in-pool (C .elink) e next tag (edge-link C e) refl q)
+
+pub live-added : (C : Catalogue) (e : ℕ) → is-live C e ≡ true → is-added C e ≡ true
+live-added C e h = both-true (is-added C e) _ h .0
 
 -- what a pool hands out lies from its lowest number on, and below the sum of that and the limit
 abbrev pub Handed : ℕ → ℕ → Room → Type 0

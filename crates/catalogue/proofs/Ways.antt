@@ -68,6 +68,10 @@ eqZ-read-true r a b e hr hb h = rw (← e) (eqZ-true r b hr hb h)
 pub eqZ-read-false : (r a b : ℤ) → r ≡ a → (ofZ w32 r ≡ ofZ w32 b → ⊥) → eqZ a b ≡ false
 eqZ-read-false r a b e h = rw (← e) (eqZ-false r b h)
 
+-- what a test says, by the flag that a call of it answered
+pub flag : (a r t : Bool) → r ≡ a → r ≡ t → a ≡ t
+flag a r t e q = sym e ∙ q
+
 -- a signed argument reaches a callee through its bits, and means the same there
 pub arg : {A : Type 0} (f : ℤ → A) (r : A) (k k′ : ℤ) → r ≡ f k′ → k′ ≡ k → r ≡ f k
 arg f r k k′ e s = e ∙ ap f s

@@ -6,7 +6,7 @@ use mathlib.Core.Path.{_≡_, refl, ap, ap₂, _∙_}
 use lib.Dec.{eqb}
 use Rattle.catalogue.specs.Tests.{keep, every}
 use Rattle.catalogue.specs.Live.{walk}
-use Rattle.resting.specs.Members.{All}
+use Rattle.catalogue.proofs.Members.{All}
 
 module _ {A : Type 0} where
   pub keep-same : (test test′ : A → Bool) (l : List A) → All (λ x. test x ≡ test′ x) l → keep test l ≡ keep test′ l

@@ -10,9 +10,9 @@ use Rattle.catalogue.specs.Catalogue.{Catalogue, vertex-link, first-link, edge-
 use Rattle.catalogue.specs.Live.{walk, next-vertex, first-edge, next-edge, vertices, edges-of, unmarked, is-added, is-live, live-vertices, live-edges-of, gather}
 use Rattle.catalogue.proofs.Picks.{vertex-both, edge-both}
 use Rattle.catalogue.proofs.Leads.{vertex-next-in, edge-next-in, first-next-in}
-use Rattle.resting.specs.Members.{All, all-each, kept-all}
-use Rattle.resting.specs.Gathers.{gather-same}
-use Rattle.resting.specs.Walks.{walk-within}
+use Rattle.catalogue.proofs.Members.{All, all-each, kept-all}
+use Rattle.catalogue.proofs.Gathers.{gather-same}
+use Rattle.catalogue.proofs.Walks.{walk-within}
 use Rattle.lent.proofs.Twins.{twin, Same, pick-twin}
 use Rattle.lent.proofs.Agrees.{Agree}
 use Rattle.lent.proofs.Reading.{vertex-read, mark-read, first-read, edge-read, target-read}

@@ -14,7 +14,7 @@ use Rattle.catalogue.specs.declared.workers.Table.{Table}
 use Rattle.catalogue.specs.declared.steps.Decision.{Decision}
 use Rattle.catalogue.specs.declared.steps.Decision.the-variants as decision
 use Rattle.catalogue.proofs.Picks.{pick-both}
-use Rattle.resting.specs.Members.{All}
+use Rattle.catalogue.proofs.Members.{All}
 
 abbrev pub Near : ℕ → Type 0
 Near n = n < vertex-pool

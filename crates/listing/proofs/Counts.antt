@@ -9,9 +9,10 @@ use mir.Val.{Fits}
 use lib.ListN.{length, length-append}
 use borrow.Author.Needs.{needs}
 use Rattle.catalogue.specs.Live.{gather}
+use Rattle.catalogue.proofs.Gathers.{gather-none, gather-first}
 use Rattle.survey.proofs.WalkLaws.{falls}
 use Rattle.listing.specs.Walks.{kept-from}
-use Rattle.listing.proofs.Kept.{gather-none, gather-first, none-left, at-end, going-on, kept-short}
+use Rattle.listing.proofs.Kept.{none-left, at-end, going-on, kept-short}
 
 -- a walk from a node that was read
 pub same-walk : (next : ℕ → ℕ) (end : ℕ) (test : ℕ → Bool) (fuel first x : ℕ) → first ≡ x → kept-from next end test fuel first ≡ kept-from next end test fuel x

@@ -6,23 +6,23 @@ use mathlib.Core.Path.{_≡_, refl, sym, ap, ap₂, _∙_}
 use native.Mathlib.Omega.{arith}
 use native.Mathlib.Nat.{zero-add}
 use borrow.Author.Needs.{needs}
-use borrow.Author.Tests.{le-leb, lt-leb, leb-true}
+use borrow.Author.Tests.{le-leb, lt-leb}
 use mir.Syntax.{w32}
 use mir.Val.{Fits}
 use lib.IntN.{ℤ, pos}
 use lib.ListN.{length, drop, length-append}
-use Rattle.catalogue.specs.Tests.{keep, every}
-use Rattle.catalogue.specs.Numbers.{head, tail, edge-tail, vertex-pool, edge-pool, most-edges}
+use Rattle.catalogue.specs.Tests.{keep}
+use Rattle.catalogue.specs.Numbers.{head, tail, edge-tail, vertex-pool, edge-pool}
 use Rattle.catalogue.specs.Catalogue.{Catalogue}
 use Rattle.catalogue.specs.Lent.{Memory, view, sized, output-fits, output-size, catalogue-in, lent-listing}
 use Rattle.catalogue.specs.Listing.{Reply-line, reply-numbers, contents, added-edges, vertex-lines, edge-lines, result-text, written, list-into}
-use Rattle.catalogue.specs.Live.{gather, next-vertex, first-edge, next-edge, unmarked, is-added, edges-of, vertices, live-vertices, live-edges-of}
-use Rattle.catalogue.specs.Soundness.{Asks, listing, vertex-sound, edges-sound, sound}
+use Rattle.catalogue.specs.Live.{gather, next-vertex, first-edge, next-edge, unmarked, is-added, edges-of, live-vertices, live-edges-of}
+use Rattle.catalogue.specs.Soundness.{listing, sound}
 use Rattle.catalogue.specs.Text.{line, lines}
 use Rattle.catalogue.specs.declared.answers.Refusal.the-variants as refusal
 use Rattle.catalogue.specs.declared.listing.Listed.{Listed}
 use Rattle.catalogue.specs.declared.listing.Listed.the-variants.{Written, Refused}
-use Rattle.catalogue.proofs.Picks.{both-true}
+use Rattle.resting.specs.Sound.{edges-few}
 use Rattle.survey.specs.Walks.{linked}
 use Rattle.text.specs.Puts.{put-at}
 use Rattle.text.proofs.Runs.{put-then, end-then}
@@ -81,14 +81,6 @@ pub ruleset contents-cases = (vertices-fit, added-fit, contents-put, contents-en
 
 -- ---- the text of a sound catalogue
 
-pub few-edges : (asks : Asks) (C : Catalogue) → sound asks C ≡ true → length (gather (live-edges-of C) (live-vertices C)) ≤ most-edges
-unfolding sound
-few-edges asks C e =
-    let free = both-true (unmarked C head) _ e in
-    let walk = both-true (every (vertex-sound C) (head ∷ vertices C)) _ (free .1) in
-    let lists = both-true (every (edges-sound asks C) (live-vertices C)) _ (walk .1) in
-    leb-true _ most-edges (lists .1)
-
 pub text-parts : (C : Catalogue) (replies : List Reply-line)
     → result-text C replies ≡ line (contents C replies) ++ (lines (map reply-numbers replies) ++ lines (vertex-lines C ++ edge-lines C))
 unfolding result-text lines
@@ -125,7 +117,7 @@ module _ (keys : List ℤ) (words : List ℕ) where
 
     module _ (q : r ≡ true) where
       limit : live ≤ 2047
-      limit = few-edges listing C (sym e ∙ q)
+      limit = edges-few listing C (sym e ∙ q)
 
       pub body-room : (m : List ℕ) (start : ℕ) → 65536 ≤ length l → length m ≡ length l → start ≤ 36 → start + 3072 + 24 * live ≤ length m
       body-room m start room long within = omega (arith, limit)

@@ -20,9 +20,10 @@ use Rattle.catalogue.specs.Text.{line, lines}
 use Rattle.catalogue.proofs.Picks.{pick-both}
 use Rattle.text.proofs.LineLaws.{All-short, length-line, length-short}
 use Rattle.text.proofs.Naturals.{natural-short}
-use Rattle.listing.proofs.Kept.{gather-none, gather-first}
+use Rattle.catalogue.proofs.Gathers.{gather-none, gather-first}
+use Rattle.resting.specs.Sound.{edges-few}
 use Rattle.listing.proofs.Whole.{lines-append}
-use Rattle.listing.proofs.Results.{few-vertices, few-added, few-edges, text-parts}
+use Rattle.listing.proofs.Results.{few-vertices, few-added, text-parts}
 
 -- keys of 32 bits, as those of lent memory are
 pub record Keyed (C : Catalogue) : Type 0 where
@@ -86,7 +87,7 @@ module _ (C : Catalogue) (keyed : Keyed C) where
         omega (
           arith,
           body-fits,
-          few-edges asks C e,
+          edges-few asks C e,
           ap length (text-parts C replies),
           length-append (line (contents C replies)) (told ++ body),
           length-append told body,

@@ -1,4 +1,4 @@
--- A table of a function's values, as a list: its length, what stands in it and behind it, and what a store makes of it. Assumes nothing.
+-- A table of a function's values, as a list: what stands in it and behind it, and what a store makes of it. Assumes nothing.
 use Prim.Native.Nat.{ℕ, zero, suc, _+_, _<_}
 use mathlib.Core.Bool.{Bool, true, false}
 use mathlib.Core.List.{List, [], _∷_, _++_}
@@ -10,13 +10,9 @@ use lib.Seq.{ext-getD, getD-set-same, getD-set-other, getD-append-add, set-appen
 use lib.Dec.{eqb}
 use borrow.Author.Tests.{eqb-true, eqb-false}
 use Rattle.catalogue.specs.Tests.{pick, upd, table-from}
+use Rattle.catalogue.proofs.Gathers.{length-table}
 
 module _ {A : Type 0} where
-  pub length-table : (f : ℕ → A) (from n : ℕ) → length (table-from f from n) ≡ n
-  unfolding table-from
-  length-table f from zero = refl
-  length-table f from (suc n) = ap suc (length-table f (suc from) n)
-
   table-at : (f : ℕ → A) (from n i : ℕ) (d : A) → i < n → getD (table-from f from n) i d ≡ f (from + i)
   unfolding table-from
   table-at f from zero i d h = absurd (omega arith)

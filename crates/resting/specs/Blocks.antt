@@ -12,7 +12,7 @@ use borrow.Author.Tests.{eq-eqb, ne-eqb, lt-ltb, le-ltb, ltb-true, ltb-false}
 use Rattle.catalogue.specs.Tests.{pick}
 use Rattle.catalogue.specs.Numbers.{edge-tail}
 use Rattle.catalogue.specs.Sweep.{Swept-edge, first-of, next-swept-edge, source-at}
-use Rattle.resting.specs.Members.{All, chosen, all-at}
+use Rattle.catalogue.proofs.Members.{All, chosen, all-at}
 
 -- what a list of swept edges has behind its end
 abbrev pub blank : Swept-edge
@@ -25,11 +25,11 @@ module _ (x : ℕ) where
   abbrev pub Elsewhere : List Swept-edge → Type 0
   Elsewhere = All (λ d. d .source ≡ x → ⊥)
 
-  sees : (d : Swept-edge) (es : List Swept-edge) (n : ℕ) → first-of x (d ∷ es) n ≡ pick (eqb x (d .source)) n (first-of x es (suc n))
+  pub sees : (d : Swept-edge) (es : List Swept-edge) (n : ℕ) → first-of x (d ∷ es) n ≡ pick (eqb x (d .source)) n (first-of x es (suc n))
   unfolding first-of
   sees d es n = chosen (eqb x (d .source)) n (first-of x es (suc n))
 
-  passes : (pre es : List Swept-edge) (n : ℕ) → Elsewhere pre → first-of x (pre ++ es) n ≡ first-of x es (n + length pre)
+  pub passes : (pre es : List Swept-edge) (n : ℕ) → Elsewhere pre → first-of x (pre ++ es) n ≡ first-of x es (n + length pre)
   passes [] es n h = ap (first-of x es) (omega arith)
   passes (d ∷ pre) es n h =
       sees d (pre ++ es) n

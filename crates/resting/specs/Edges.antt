@@ -9,20 +9,20 @@ use lib.ListN.{length, getD}
 use lib.Signed.{_<ℤ_}
 use Rattle.catalogue.specs.Tests.{eqZ, every, member}
 use Rattle.catalogue.specs.Numbers.{edge-tail, edge-pool, greatest, least}
-use Rattle.catalogue.specs.Catalogue.{Catalogue, vertex-key, vertex-link, first-link, edge-key, edge-key-in, edge-link, edge-target, at-target, at-mark}
+use Rattle.catalogue.specs.Catalogue.{Catalogue, vertex-key, vertex-link, first-link, edge-key, edge-key-in, edge-link, edge-target, at-target}
 use Rattle.catalogue.specs.Live.{next-edge, first-edge, vertices, edges-of, unmarked, is-added, is-live, live-vertices, live-edges-of}
 use Rattle.catalogue.specs.Soundness.{Asks, tag-fits, edge-sound, edges-sound, target-sound, sound}
 use Rattle.catalogue.specs.Sweep.{Swept-edge, swept-edge, swept-edges, renumbered}
 use Rattle.catalogue.specs.declared.links.Target.{Target}
 use Rattle.catalogue.specs.declared.links.Target.the-variants as target
-use Rattle.catalogue.proofs.Picks.{clash}
+use Rattle.catalogue.proofs.Picks.{clash, both-true}
 use Rattle.catalogue.proofs.Rules.{eqZ-eq}
-use Rattle.resting.specs.Members.{All, both-true, all-each, all-keep, all-map, all-gather, every-all, keys-kept}
-use Rattle.resting.specs.Keys.{Rising, rising-keep}
-use Rattle.resting.specs.Walks.{Climbs, walk-rising, walk-under, walk-within}
-use Rattle.resting.specs.Links.{edge-goes, first-goes}
+use Rattle.catalogue.proofs.Leads.{edge-goes, first-goes}
+use Rattle.catalogue.proofs.Members.{All, all-each, all-keep, all-map, all-gather, every-all, keys-kept, member-keep}
+use Rattle.catalogue.proofs.Keys.{Rising, rising-keep}
+use Rattle.catalogue.proofs.Walks.{Climbs, walk-rising, walk-under, walk-within}
 use Rattle.resting.specs.Places.{place-two, place-from, place-below, place-reads}
-use Rattle.resting.specs.Sound.{edge-rises, whole, met, member-keep, lists-sound}
+use Rattle.resting.specs.Sound.{edge-rises, whole, met, lists-sound}
 
 -- the keys of the live vertices by their new numbers
 abbrev pub new-keys : Catalogue → List ℤ
@@ -33,6 +33,17 @@ pub record Aimed (C : Catalogue) (d : Swept-edge) : Type 0 where
   pub low : 2 ≤ d .target
   pub high : d .target < 2 + length (live-vertices C)
   pub keyed : getD (new-keys C) (d .target) (pos 0) ≡ d .key
+
+-- an edge whose target is sound and without a mark
+abbrev pub Lives : Catalogue → ℕ → Type 0
+Lives C e = (at-target (edge-target C e) false (unmarked C) ≡ true) × (at-target (edge-target C e) false (target-sound C e) ≡ true)
+
+-- such a target is a live vertex
+pub live-target : (C : Catalogue) (e y : ℕ) → unmarked C y ≡ true → target-sound C e y ≡ true → member y (live-vertices C) ≡ true
+live-target C e y u t =
+    member-keep (unmarked C) y (vertices C)
+    (met (member y (vertices C)) (vertex-link C y) u (both-true (eqZ (vertex-key C y) (edge-key C e)) _ t .1))
+    u
 
 module _ (C : Catalogue) (x e : ℕ) where
   renewed : (y : ℕ) → member y (live-vertices C) ≡ true → vertex-key C y ≡ edge-key C e
@@ -46,9 +57,7 @@ module _ (C : Catalogue) (x e : ℕ) where
 
   aimed-at : (l : Target) → at-target l false (unmarked C) ≡ true → at-target l false (target-sound C e) ≡ true
       → Aimed C (record { source = renumbered C x; target = at-target l 0 (renumbered C); key = edge-key C e })
-  aimed-at (target.At y) u t =
-      let r = both-true (eqZ (vertex-key C y) (edge-key C e)) (at-mark (vertex-link C y) false true (member y (vertices C))) t in
-      renewed y (member-keep (unmarked C) y (vertices C) (met (member y (vertices C)) (vertex-link C y) u (r .1)) u) (eqZ-eq (vertex-key C y) (edge-key C e) (r .0))
+  aimed-at (target.At y) u t = renewed y (live-target C e y u t) (eqZ-eq (vertex-key C y) (edge-key C e) (both-true (eqZ (vertex-key C y) (edge-key C e)) _ t .0))
   aimed-at target.Torn u t = clash (cc)
 
 module _ (asks : Asks) (C : Catalogue) (x : ℕ) (s : edges-sound asks C x ≡ true) where
@@ -67,7 +76,7 @@ module _ (asks : Asks) (C : Catalogue) (x : ℕ) (s : edges-sound asks C x ≡ t
   within : All (λ e. (1 ≤ e) × (e < 2048)) (edges-of C x)
   within =
       all-each (λ e. (e < 2048) × (e ≡ edge-tail → ⊥)) (λ e. (1 ≤ e) × (e < 2048)) (λ e h. let n = h .1 in omega arith) (edges-of C x)
-      (walk-within (next-edge C) edge-tail edge-pool edge-pool (first-edge C x) (edge-goes C) (first-goes C x))
+      (walk-within (next-edge C) edge-tail edge-pool edge-pool (first-edge C x) (edge-goes (C .elink)) (first-goes (C .first) x))
 
   pub edges-rising : Rising (map (edge-key C) (live-edges-of C x))
   edges-rising = rising-keep (edge-key C) (is-live C) (edges-of C x) (walk-rising (next-edge C) edge-tail (edge-key C) edge-pool (first-edge C x) climb)
@@ -78,12 +87,16 @@ module _ (asks : Asks) (C : Catalogue) (x : ℕ) (s : edges-sound asks C x ≡ t
       keys-kept (λ k. k <ℤ greatest) (edge-key C) (is-live C) (edges-of C x)
       (walk-under (next-edge C) edge-tail (edge-key C) edge-pool (first-edge C x) climb 1 2047 within (omega arith))
 
+  pub targets-live : All (Lives C) (live-edges-of C x)
+  targets-live =
+      all-each (λ e. Good e × (is-live C e ≡ true)) (Lives C)
+      (λ e h. (both-true (is-added C e) _ (h .1) .1, h .0 .1)) (live-edges-of C x) (all-keep Good (is-live C) (edges-of C x) good)
+
   aims : All (Aimed C) (map (swept-edge C x) (live-edges-of C x))
   aims =
       all-map (Aimed C) (swept-edge C x) (live-edges-of C x)
-      (all-each (λ e. Good e × (is-live C e ≡ true)) (λ e. Aimed C (swept-edge C x e))
-      (λ e h. aimed-at C x e (edge-target C e) (both-true (is-added C e) (at-target (edge-target C e) false (unmarked C)) (h .1) .1) (h .0 .1))
-      (live-edges-of C x) (all-keep Good (is-live C) (edges-of C x) good))
+      (all-each (Lives C) (λ e. Aimed C (swept-edge C x e))
+      (λ e h. aimed-at C x e (edge-target C e) (h .0) (h .1)) (live-edges-of C x) targets-live)
 
 pub all-aimed : (asks : Asks) (C : Catalogue) → sound asks C ≡ true → All (Aimed C) (swept-edges C)
 all-aimed asks C s =

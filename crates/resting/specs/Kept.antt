@@ -16,14 +16,15 @@ use Rattle.catalogue.specs.Soundness.{Asks, sound}
 use Rattle.catalogue.specs.Sweep.{swept}
 use Rattle.catalogue.specs.Text.{lines}
 use Rattle.catalogue.specs.Listing.{vertex-lines, edge-lines, added-edges}
-use Rattle.resting.specs.Members.{All, all-each, keep-all}
+use Rattle.catalogue.proofs.Pools.{live-added}
+use Rattle.catalogue.proofs.Members.{All, all-each, keep-all}
 use Rattle.resting.specs.Rows.{row, all-row}
-use Rattle.resting.specs.Gathers.{gather-same}
+use Rattle.catalogue.proofs.Gathers.{gather-same}
 use Rattle.resting.specs.Sound.{edges-few}
 use Rattle.resting.specs.Vertices.{live-few}
 use Rattle.resting.specs.Shape.{vertices-row, live-row, unmarked-at, each-vertex}
 use Rattle.resting.specs.Shares.{start, shares-length, edges-row, edge-keys-row, number-key}
-use Rattle.resting.specs.Targets.{Leads, leads, live-added, is-live-row, list-live}
+use Rattle.resting.specs.Targets.{Leads, leads, is-live-row, list-live}
 use Rattle.resting.specs.Standing.{Stands, stands-in, lists-row}
 use Rattle.resting.specs.Lines.{vertex-lines-kept, edge-lines-kept}
 use Rattle.resting.specs.Resound.{bits-least, sound-again}

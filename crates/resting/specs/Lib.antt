@@ -1,8 +1,4 @@
 -- A sweep, at rest: what it keeps and what it leaves behind, for every sound catalogue.
-pub mod Members
-pub mod Keys
-pub mod Pigeons
-pub mod Walks
 pub mod Rows
 pub mod Places
 pub mod Blocks
@@ -11,7 +7,6 @@ pub mod Sound
 pub mod Vertices
 pub mod Edges
 pub mod Reads
-pub mod Gathers
 pub mod Shape
 pub mod Shares
 pub mod Targets

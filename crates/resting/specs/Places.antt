@@ -10,10 +10,10 @@ use borrow.Author.Tests.{eqb-true, eq-eqb, ne-eqb}
 use Rattle.catalogue.specs.Tests.{pick, member}
 use Rattle.catalogue.specs.Sweep.{position}
 use Rattle.catalogue.proofs.Picks.{clash}
-use Rattle.resting.specs.Members.{All, chosen}
+use Rattle.catalogue.proofs.Members.{All, chosen}
 
 module _ (y : ℕ) where
-  goes : (x : ℕ) (l : List ℕ) (from : ℕ) → position y (x ∷ l) from ≡ pick (eqb y x) from (position y l (suc from))
+  pub goes : (x : ℕ) (l : List ℕ) (from : ℕ) → position y (x ∷ l) from ≡ pick (eqb y x) from (position y l (suc from))
   unfolding position
   goes x l from = chosen (eqb y x) from (position y l (suc from))
 

@@ -11,17 +11,12 @@ use borrow.Author.Tests.{eqb-false, lt-ltb, le-ltb}
 use Rattle.catalogue.specs.Tests.{pick, member, table-from}
 use Rattle.catalogue.specs.Live.{gather}
 use Rattle.catalogue.proofs.Picks.{pick-both}
-use Rattle.resting.specs.Members.{All}
-use Rattle.resting.specs.Walks.{Ends}
+use Rattle.catalogue.proofs.Members.{All}
+use Rattle.catalogue.proofs.Walks.{Ends}
 
 -- so many numbers from one on
 abbrev pub row : ℕ → ℕ → List ℕ
 row from n = table-from (λ i. i) from n
-
-pub length-row : (from n : ℕ) → length (row from n) ≡ n
-unfolding table-from
-length-row from zero = refl
-length-row from (suc n) = ap suc (length-row (suc from) n)
 
 pub all-row : (P : ℕ → Type 0) (from n : ℕ) → ((i : ℕ) → from ≤ i → i < from + n → P i) → All P (row from n)
 unfolding table-from

@@ -13,9 +13,10 @@ use Rattle.catalogue.specs.Live.{next-vertex, vertices, unmarked, live-vertices
 use Rattle.catalogue.specs.Soundness.{Asks, sound}
 use Rattle.catalogue.specs.Sweep.{swept, next-swept}
 use Rattle.catalogue.specs.declared.links.VertexLink.{VertexLink}
-use Rattle.resting.specs.Members.{All, keep-all}
-use Rattle.resting.specs.Walks.{Ends, run-walk}
-use Rattle.resting.specs.Rows.{row, length-row, all-row, map-row, row-ends, numbered, each-row}
+use Rattle.catalogue.proofs.Gathers.{length-table}
+use Rattle.catalogue.proofs.Members.{All, keep-all}
+use Rattle.catalogue.proofs.Walks.{Ends, run-walk}
+use Rattle.resting.specs.Rows.{row, all-row, map-row, row-ends, numbered, each-row}
 use Rattle.resting.specs.Vertices.{live-few}
 use Rattle.resting.specs.Edges.{new-keys}
 use Rattle.resting.specs.Reads.{head-at, vertex-at, vertex-key-at}
@@ -36,7 +37,7 @@ module _ (asks : Asks) (C : Catalogue) (s : sound asks C ≡ true) where
   pub vertices-row : vertices (swept C) ≡ row 2 count
   vertices-row =
       run-walk (next-vertex (swept C)) tail vertex-pool (next-vertex (swept C) head) (row 2 count) vertices-end
-      (omega (arith, length-row 2 count, live-few asks C s))
+      (omega (arith, length-table (λ i. i) 2 count, live-few asks C s))
 
   pub unmarked-at : (i : ℕ) → 2 ≤ i → i < 2 + count → unmarked (swept C) i ≡ true
   unmarked-at i a b = ap (λ l. at-mark l false false true) (vertex-at C (live-few asks C s) i a b)

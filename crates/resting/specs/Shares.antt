@@ -18,16 +18,16 @@ use Rattle.catalogue.specs.Sweep.{Swept-edge, swept-edge, swept-edges, swept, r
 use Rattle.catalogue.specs.declared.links.EdgeLink.{EdgeLink}
 use Rattle.catalogue.specs.declared.links.EdgeLink.the-variants as edge
 use Rattle.catalogue.proofs.Picks.{pick-both}
-use Rattle.resting.specs.Members.{All, all-each, all-any, all-join, all-parts, all-map, all-gather, all-member}
-use Rattle.resting.specs.Keys.{Distinct, distinct-parts}
-use Rattle.resting.specs.Walks.{Ends, run-walk}
-use Rattle.resting.specs.Rows.{row, length-row, map-row, row-ends}
+use Rattle.catalogue.proofs.Members.{All, all-each, all-any, all-join, all-parts, all-map, all-gather, all-member}
+use Rattle.catalogue.proofs.Distinct.{Distinct, distinct-parts}
+use Rattle.catalogue.proofs.Walks.{Ends, run-walk}
+use Rattle.resting.specs.Rows.{row, map-row, row-ends}
 use Rattle.resting.specs.Places.{place-front, place-apart}
 use Rattle.resting.specs.Blocks.{blank, From, Elsewhere, Together, first-there, stands, next-there}
 use Rattle.resting.specs.Sound.{edges-few}
 use Rattle.resting.specs.Vertices.{live-distinct}
 use Rattle.resting.specs.Edges.{new-keys}
-use Rattle.resting.specs.Gathers.{gather-append, gather-length}
+use Rattle.catalogue.proofs.Gathers.{length-table, gather-append, gather-length}
 use Rattle.resting.specs.Reads.{vertex-key-at, edge-key-at, first-at, edge-at}
 
 module _ (C : Catalogue) where
@@ -123,7 +123,7 @@ module _ (asks : Asks) (C : Catalogue) (s : sound asks C ≡ true) where
         (row-ends (next-edge (swept C)) edge-tail (from + size) from size refl (λ e a b. (ap to (link-row e a b), omega arith)))
 
     pub edges-row : edges-of (swept C) number ≡ row from size
-    edges-row = run-walk (next-edge (swept C)) edge-tail edge-pool (first-edge (swept C) number) (row from size) edges-end (omega (arith, length-row from size, row-low, swept-few))
+    edges-row = run-walk (next-edge (swept C)) edge-tail edge-pool (first-edge (swept C) number) (row from size) edges-end (omega (arith, length-table (λ i. i) from size, row-low, swept-few))
 
     pub edge-keys-row : map (edge-key (swept C)) (row from size) ≡ map (edge-key C) (live-edges-of C x)
     edge-keys-row =

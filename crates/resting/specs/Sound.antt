@@ -1,14 +1,14 @@
 -- What soundness tells of each vertex and of each edge, as the order of keys and as members of lists. Assumes nothing.
 use Prim.Native.Nat.{ℕ, _≤_}
 use mathlib.Core.Bool.{Bool, true, false}
-use mathlib.Core.List.{List, [], _∷_}
-use mathlib.Core.Path.{_≡_, refl, ap}
+use mathlib.Core.List.{_∷_}
+use mathlib.Core.Path.{_≡_}
 use lib.IntN.{ℤ}
 use lib.ListN.{length}
 use lib.Dec.{eqb, leb}
 use lib.Signed.{ltZ, _<ℤ_}
-use borrow.Author.Tests.{leb-true, eqb-true}
-use Rattle.catalogue.specs.Tests.{pick, keep, every, member}
+use borrow.Author.Tests.{leb-true}
+use Rattle.catalogue.specs.Tests.{pick, every}
 use Rattle.catalogue.specs.Numbers.{head, tail, edge-tail, most-edges, marked}
 use Rattle.catalogue.specs.Catalogue.{Catalogue, at-vertex, at-edge, at-mark}
 use Rattle.catalogue.specs.Live.{vertices, unmarked, live-vertices, live-edges-of, gather}
@@ -17,9 +17,9 @@ use Rattle.catalogue.specs.declared.links.VertexLink.{VertexLink}
 use Rattle.catalogue.specs.declared.links.VertexLink.the-variants as vertex
 use Rattle.catalogue.specs.declared.links.EdgeLink.{EdgeLink}
 use Rattle.catalogue.specs.declared.links.EdgeLink.the-variants as edge
-use Rattle.catalogue.proofs.Picks.{clash}
-use Rattle.resting.specs.Members.{All, both-true, every-all}
-use Rattle.resting.specs.Keys.{rises}
+use Rattle.catalogue.proofs.Picks.{clash, both-true}
+use Rattle.catalogue.proofs.Members.{All, every-all}
+use Rattle.catalogue.proofs.Keys.{rises}
 
 -- a test of a link that came out true
 pub link-rises : (low : ℤ) (key : ℕ → ℤ) (l : VertexLink) → at-vertex l false (λ next tag. ltZ low (key next)) ≡ true → low <ℤ key (at-vertex l tail (λ next tag. next))
@@ -45,18 +45,6 @@ met m (vertex.At next tag) = by (eqb tag marked)
     by true u e = clash (cc)
     by false u e = e
 met m vertex.Torn = λ u e. clash (cc)
-
-pub member-keep : (test : ℕ → Bool) (y : ℕ) (l : List ℕ) → member y l ≡ true → test y ≡ true → member y (keep test l) ≡ true
-unfolding member keep
-member-keep test y [] m e = m
-member-keep test y (x ∷ l) m e = by (eqb y x) refl (test x) refl m (λ n. member-keep test y l n e)
-  where
-    by : (t : Bool) → eqb y x ≡ t → (u : Bool) → test x ≡ u → pick t true (member y l) ≡ true → (member y l ≡ true → member y (keep test l) ≡ true)
-        → member y (pick u (x ∷ keep test l) (keep test l)) ≡ true
-    by true q true p n h = rw q refl
-    by true q false p n h = let same : y ≡ x = eqb-true y x q in clash (cc (ap test same))
-    by false q true p n h = rw q (h n)
-    by false q false p n h = h n
 
 module _ (asks : Asks) (C : Catalogue) (s : sound asks C ≡ true) where
   abbrev lists : Bool

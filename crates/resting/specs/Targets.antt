@@ -13,7 +13,7 @@ use Rattle.catalogue.specs.Live.{edges-of, unmarked, is-added, is-live, live-ve
 use Rattle.catalogue.specs.Soundness.{Asks, sound}
 use Rattle.catalogue.specs.Sweep.{swept-edges, swept}
 use Rattle.catalogue.specs.declared.links.Target.the-variants as target
-use Rattle.resting.specs.Members.{All, both-true, all-at}
+use Rattle.catalogue.proofs.Members.{All, all-at}
 use Rattle.resting.specs.Rows.{all-row}
 use Rattle.resting.specs.Vertices.{live-few}
 use Rattle.resting.specs.Edges.{Aimed, all-aimed}
@@ -29,9 +29,6 @@ pub record Leads (C : Catalogue) (e : ℕ) : Type 0 where
   pub low : 2 ≤ to
   pub high : to < 2 + length (live-vertices C)
   pub keyed : vertex-key (swept C) to ≡ edge-key (swept C) e
-
-pub live-added : (C : Catalogue) (e : ℕ) → is-live C e ≡ true → is-added C e ≡ true
-live-added C e h = both-true (is-added C e) (at-target (edge-target C e) false (unmarked C)) h .0
 
 module _ (asks : Asks) (C : Catalogue) (s : sound asks C ≡ true) where
   pub leads : (e : ℕ) → 1 ≤ e → e ≤ length (swept-edges C) → Leads C e

@@ -10,11 +10,11 @@ use Rattle.catalogue.specs.Numbers.{head, tail, vertex-pool, most-vertices, gre
 use Rattle.catalogue.specs.Catalogue.{Catalogue, vertex-key, vertex-key-in, vertex-link}
 use Rattle.catalogue.specs.Live.{next-vertex, vertices, unmarked, live-vertices}
 use Rattle.catalogue.specs.Soundness.{Asks, vertex-sound, sound}
-use Rattle.resting.specs.Members.{All, all-each, all-join, kept-all, map-all, keys-kept}
-use Rattle.resting.specs.Keys.{Rising, Distinct, rising-keep, rising-distinct}
-use Rattle.resting.specs.Pigeons.{pigeons}
-use Rattle.resting.specs.Walks.{Climbs, walk-above, walk-rising, walk-under, walk-within}
-use Rattle.resting.specs.Links.{vertex-goes}
+use Rattle.catalogue.proofs.Leads.{vertex-goes}
+use Rattle.catalogue.proofs.Members.{All, all-each, all-join, kept-all, map-all, keys-kept}
+use Rattle.catalogue.proofs.Keys.{Rising, rising-keep, rising-distinct}
+use Rattle.catalogue.proofs.Distinct.{Distinct, pigeons}
+use Rattle.catalogue.proofs.Walks.{Climbs, walk-above, walk-rising, walk-under, walk-within}
 use Rattle.resting.specs.Sound.{link-rises, vertices-sound}
 
 module _ (asks : Asks) (C : Catalogue) (s : sound asks C ≡ true) where
@@ -31,7 +31,7 @@ module _ (asks : Asks) (C : Catalogue) (s : sound asks C ≡ true) where
       all-each (λ x. (vertex-key C head <ℤ vertex-key C x) × ((x < 256) × (x ≡ tail → ⊥))) (λ x. (2 ≤ x) × (x < 256)) (λ x h. high x (h .0) (h .1 .0) (h .1 .1)) (vertices C)
       (all-join (λ x. vertex-key C head <ℤ vertex-key C x) (λ x. (x < 256) × (x ≡ tail → ⊥)) (vertices C)
       (map-all (λ k. vertex-key C head <ℤ k) (vertex-key C) (vertices C) over)
-      (walk-within (next-vertex C) tail vertex-pool vertex-pool (next-vertex C head) (vertex-goes C) (vertex-goes C head)))
+      (walk-within (next-vertex C) tail vertex-pool vertex-pool (next-vertex C head) (vertex-goes (C .vlink)) (vertex-goes (C .vlink) head)))
     where
       high : (x : ℕ) → vertex-key C head <ℤ vertex-key C x → x < 256 → (x ≡ tail → ⊥) → (2 ≤ x) × (x < 256)
       high zero k b n = absurd (<ℤ-irrefl {a = vertex-key C head} k)
@@ -47,8 +47,11 @@ module _ (asks : Asks) (C : Catalogue) (s : sound asks C ≡ true) where
   pub live-distinct : Distinct (live-vertices C)
   live-distinct = rising-distinct (vertex-key C) (live-vertices C) live-rising
 
+  pub live-within : All (λ x. (2 ≤ x) × (x < 256)) (live-vertices C)
+  live-within = kept-all (λ x. (2 ≤ x) × (x < 256)) (unmarked C) (vertices C) within
+
   pub live-few : length (live-vertices C) ≤ most-vertices
-  live-few = pigeons 2 254 (live-vertices C) live-distinct (kept-all (λ x. (2 ≤ x) × (x < 256)) (unmarked C) (vertices C) within)
+  live-few = pigeons 2 254 (live-vertices C) live-distinct live-within
 
   pub live-under : All (λ k. k <ℤ greatest) (map (vertex-key C) (live-vertices C))
   unfolding vertex-key-in

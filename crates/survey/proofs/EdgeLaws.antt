@@ -1,12 +1,11 @@
 -- What the walk of an edge list counts from an edge on, by the edge and by what it counts from the next on. Assumes nothing.
-use Prim.Native.Nat.{ℕ, zero, suc, _+_, _-_, _≤_}
+use Prim.Native.Nat.{ℕ, _+_, _-_, _≤_}
 use mathlib.Core.Bool.{Bool, true, false}
 use mathlib.Core.List.{List, [], _∷_}
 use mathlib.Core.Path.{_≡_, refl, sym, _∙_, ap, subst}
 use native.Mathlib.Omega.{arith}
 use native.Mathlib.Nat.{le-trans}
 use borrow.Author.Needs.{needs}
-use lib.Dec.{eqb}
 use lib.ListN.{length}
 use Rattle.catalogue.specs.Tests.{pick, every, keep}
 use Rattle.catalogue.specs.Numbers.{edge-tail, edge-pool}
@@ -16,8 +15,10 @@ use Rattle.catalogue.specs.Soundness.{Asks, edge-sound, edges-sound}
 use Rattle.catalogue.specs.declared.links.EdgeLink.{EdgeLink}
 use Rattle.catalogue.specs.declared.links.EdgeLink.the-variants as edge
 use Rattle.catalogue.proofs.Picks.{pick-both}
-use Rattle.survey.proofs.Pools.{edge-goes, first-to}
-use Rattle.survey.proofs.WalkLaws.{walk-spent, walk-end, walk-on, falls}
+use Rattle.catalogue.proofs.Members.{keep-short}
+use Rattle.catalogue.proofs.Walks.{walk-spent, walk-end, walk-on, walk-bounded}
+use Rattle.survey.proofs.Pools.{edge-on, first-to}
+use Rattle.survey.proofs.WalkLaws.{falls}
 use Rattle.survey.specs.Walks.{counted, edges-from, edges-at}
 use Rattle.survey.specs.declared.edges.Edges.{Edges}
 use Rattle.survey.specs.declared.edges.Edges.the-variants as edges
@@ -82,7 +83,7 @@ module _ (n left : ℕ) (h : n + left ≤ 2048) where
   pub no-more : n + (left - 1) ≤ 2048
   no-more = omega arith
 
-pub ruleset edges-cases = (edges-spent, edges-end, edges-off, edges-live, edges-dead, falls, edge-goes, one-more, no-more, needs)
+pub ruleset edges-cases = (edges-spent, edges-end, edges-off, edges-live, edges-dead, falls, edge-on, one-more, no-more, needs)
 
 -- The whole list of a vertex, by its first-edge link.
 module _ (asks : Asks) (C : Catalogue) where
@@ -108,20 +109,6 @@ module _ (asks : Asks) (C : Catalogue) where
 pub ruleset whole-cases = (at-torn, at-whole, first-to, needs, arith)
 
 -- A list has no more live edges than it has nodes, and no more nodes than its pool.
-keep-short : (test : ℕ → Bool) (l : List ℕ) → length (keep test l) ≤ length l
-unfolding keep
-keep-short test [] = omega arith
-keep-short test (x ∷ l) =
-    let h : length (keep test l) ≤ length l = keep-short test l in
-    pick-both (λ k. length k ≤ suc (length l)) (test x) (x ∷ keep test l) (keep test l) (λ e. omega arith) (λ e. omega arith)
-
-walk-short : (next : ℕ → ℕ) (end n x : ℕ) → length (walk next end n x) ≤ n
-unfolding walk
-walk-short next end zero x = omega arith
-walk-short next end (suc n) x =
-    let h : length (walk next end n (next x)) ≤ n = walk-short next end n (next x) in
-    elim (eqb x end) as (λ t. length {A = ℕ} (elim t [ true ↦ [] | false ↦ x ∷ walk next end n (next x) ]) ≤ suc n) [ true ↦ omega arith | false ↦ omega arith ]
-
 abbrev Most : Edges → Type 0
 Most (edges.Sound n) = n ≤ 2048
 Most edges.Unsound = Unit {0}
@@ -131,5 +118,5 @@ unfolding edges-at
 at-most asks C x live r e q =
     subst Most (sym e ∙ q)
     (pick-both Most (edges-sound asks C x) _ _
-    (λ h. le-trans (keep-short (is-live C) (edges-of C x)) (walk-short (next-edge C) edge-tail edge-pool (first-edge C x)))
+    (λ h. le-trans (keep-short (is-live C) (edges-of C x)) (walk-bounded (next-edge C) edge-tail edge-pool (first-edge C x)))
     (λ h. tt))

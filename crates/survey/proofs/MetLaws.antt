@@ -1,6 +1,6 @@
 -- The set that the walk makes has exactly the vertices that it met, where all are sound. Assumes nothing.
-use Prim.Native.Nat.{ℕ, zero, suc, _+_, _/_, _%_, _^_, _<_}
-use mathlib.Core.Bool.{Bool, true, false, false≢true}
+use Prim.Native.Nat.{ℕ, _+_, _/_, _%_, _^_, _<_}
+use mathlib.Core.Bool.{Bool, true}
 use mathlib.Core.List.{List, [], _∷_}
 use mathlib.Core.Path.{_≡_, refl, sym, _∙_, ap}
 use native.Mathlib.Omega.{arith}
@@ -15,9 +15,11 @@ use Rattle.catalogue.specs.Lent.{Sized, catalogue-in}
 use Rattle.catalogue.specs.Live.{walk, next-vertex, vertices}
 use Rattle.catalogue.specs.Soundness.{vertex-sound}
 use Rattle.catalogue.specs.Workers.{has, with-met}
-use Rattle.catalogue.proofs.Picks.{pick-both}
+use Rattle.catalogue.proofs.Picks.{both-true, pick-both}
+use Rattle.catalogue.proofs.Leads.{vertex-goes}
+use Rattle.catalogue.proofs.Members.{All, all-each}
+use Rattle.catalogue.proofs.Walks.{walk-within}
 use Rattle.workers.proofs.MetLaws.{with-met-same, with-met-other, none-met}
-use Rattle.survey.proofs.Pools.{vertex-goes}
 use Rattle.survey.specs.Walks.{also-met, met-of, found, walk-from, Ready}
 use Rattle.survey.specs.declared.walks.Walked.{Walked}
 
@@ -41,30 +43,19 @@ also-has met n y h low =
     (λ q. sym (ap (has (with-met met n)) (eqb-true y n q) ∙ with-met-same met n e (omega arith)))
     (λ q. sym (with-met-other met n e (omega arith) y (eqb-false y n q)))))
 
--- every member is a vertex number
-abbrev Low : List ℕ → Type 0
-Low [] = Unit {0}
-Low (x ∷ l) = (x < 256) × Low l
-
-first-true : (t s : Bool) → pick t s false ≡ true → (t ≡ true) × (s ≡ true)
-first-true true s e = (refl, e)
-first-true false s e = absurd (false≢true e)
-
-pub met-member : (test : ℕ → Bool) (l : List ℕ) (y : ℕ) → every test l ≡ true → Low l → has (met-of test l) y ≡ member y l
+pub met-member : (test : ℕ → Bool) (l : List ℕ) (y : ℕ) → every test l ≡ true → All (λ x. x < 256) l → has (met-of test l) y ≡ member y l
 unfolding met-of every member
 met-member test [] y e h = none-met y
 met-member test (x ∷ l) y e h =
-    let both = first-true (test x) (every test l) e in
+    let both = both-true (test x) (every test l) e in
     rw (both .0)
     (also-has (met-of test l) x y (met-length test l) (h .0)
     ∙ ap (pick (eqb y x) true) (met-member test l y (both .1) (h .1)))
 
-pub walk-low : (C : Catalogue) (n x : ℕ) → x < 256 → Low (walk (next-vertex C) tail n x)
-unfolding walk
-walk-low C zero x h = tt
-walk-low C (suc n) x h =
-    let rest = walk-low C n (next-vertex C x) (vertex-goes C x) in
-    elim (eqb x tail) as (λ t. Low (elim t [ true ↦ [] | false ↦ x ∷ walk (next-vertex C) tail n (next-vertex C x) ])) [ true ↦ tt | false ↦ (h, rest) ]
+vertices-low : (C : Catalogue) → All (λ x. x < 256) (vertices C)
+vertices-low C =
+    all-each (λ x. (x < 256) × (x ≡ tail → ⊥)) (λ x. x < 256) (λ x h. h .0) (vertices C)
+    (walk-within (next-vertex C) tail 256 256 (next-vertex C head) (vertex-goes (C .vlink)) (vertex-goes (C .vlink) head))
 
 -- so the set of a sound walk is ready to answer for targets
 pub ready : (keys : List ℤ) (words : List ℕ) (y : ℕ) (w : Walked)
@@ -78,5 +69,5 @@ ready keys words y w s q e h =
       sized = s;
       on = λ z low.
           ap (λ (v : Walked). has (v .met) z) f
-          ∙ met-member (vertex-sound C) (vertices C) z (sym (ap (λ (v : Walked). v .sound) f) ∙ h) (walk-low C 256 (next-vertex C head) (vertex-goes C head));
+          ∙ met-member (vertex-sound C) (vertices C) z (sym (ap (λ (v : Walked). v .sound) f) ∙ h) (vertices-low C);
     }

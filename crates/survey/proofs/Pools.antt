@@ -1,14 +1,11 @@
 -- Where a link that the code took apart leads, and where a walk goes on, lies in its pool. Assumes nothing.
 use Prim.Native.Nat.{ℕ, _<_}
 use mathlib.Core.Path.{_≡_, sym, _∙_, subst}
-use native.Mathlib.Omega.{arith}
-use Rattle.catalogue.specs.Numbers.{tail, edge-tail}
-use Rattle.catalogue.specs.Catalogue.{Catalogue, edge-link-in, first-link-in, vertex-link, at-edge}
-use Rattle.catalogue.specs.Live.{next-vertex}
+use Rattle.catalogue.specs.Numbers.{edge-tail}
+use Rattle.catalogue.specs.Catalogue.{edge-link-in, first-link-in, at-edge}
 use Rattle.catalogue.specs.declared.links.EdgeLink.{EdgeLink}
 use Rattle.catalogue.specs.declared.links.EdgeLink.the-variants as edge
-use Rattle.catalogue.proofs.Picks.{vertex-both, edge-both}
-use Rattle.catalogue.proofs.Leads.{edge-next-in, first-next-in, vertex-next-in}
+use Rattle.catalogue.proofs.Leads.{edge-next-in, first-next-in, edge-goes}
 
 -- a link that the code took apart
 module _ (words : ℕ → ℕ) (n next tag : ℕ) (r : EdgeLink) where
@@ -19,11 +16,5 @@ module _ (words : ℕ → ℕ) (n next tag : ℕ) (r : EdgeLink) where
   first-to e q = first-next-in words n next tag (sym e ∙ q)
 
 -- where a walk goes on
-pub edge-goes : (words : ℕ → ℕ) (n y : ℕ) → y ≡ at-edge (edge-link-in words n) edge-tail (λ next tag. next) → y < 2048
-edge-goes words n y q =
-    subst (λ (m : ℕ). m < 2048) (sym q)
-    (edge-both (λ m. m < 2048) (edge-link-in words n) edge-tail (λ next tag. next) (omega arith) (λ next tag e. edge-next-in words n next tag e))
-
-pub vertex-goes : (C : Catalogue) (n : ℕ) → next-vertex C n < 256
-vertex-goes C n =
-    vertex-both (λ m. m < 256) (vertex-link C n) tail (λ next tag. next) (omega arith) (λ next tag e. vertex-next-in (C .vlink) n next tag e)
+pub edge-on : (words : ℕ → ℕ) (n y : ℕ) → y ≡ at-edge (edge-link-in words n) edge-tail (λ next tag. next) → y < 2048
+edge-on words n y q = subst (λ (m : ℕ). m < 2048) (sym q) (edge-goes words n)

@@ -1,12 +1,10 @@
 -- What a walk finds from a node on, by what it finds there and from the next node on. Assumes nothing.
-use Prim.Native.Nat.{ℕ, zero, suc, _-_, _<_}
+use Prim.Native.Nat.{ℕ, _-_, _<_}
 use mathlib.Core.Bool.{Bool, true, false}
-use mathlib.Core.List.{List, [], _∷_}
-use mathlib.Core.Path.{_≡_, refl, sym, _∙_, ap, ap₂}
+use mathlib.Core.List.{List, _∷_}
+use mathlib.Core.Path.{_≡_, refl, sym, _∙_, ap}
 use native.Mathlib.Omega.{arith}
-use borrow.Author.Tests.{eq-eqb, ne-eqb}
 use borrow.Author.Needs.{needs}
-use lib.Dec.{eqb}
 use lib.ListN.{replicate}
 use Rattle.catalogue.specs.Tests.{every}
 use Rattle.catalogue.specs.Numbers.{tail}
@@ -14,26 +12,9 @@ use Rattle.catalogue.specs.Catalogue.{Catalogue}
 use Rattle.catalogue.specs.Live.{walk, next-vertex}
 use Rattle.catalogue.specs.Soundness.{vertex-sound}
 use Rattle.catalogue.specs.Workers.{has, with-met}
+use Rattle.catalogue.proofs.Walks.{walk-spent, walk-end, walk-on}
 use Rattle.survey.specs.Walks.{also-met, met-of, found, walk-from}
 use Rattle.survey.specs.declared.walks.Walked.{Walked}
-
--- A walk by its clauses, from what the code tests.
-pub walk-spent : (next : ℕ → ℕ) (end n x : ℕ) → n ≡ 0 → walk next end n x ≡ []
-unfolding walk
-walk-spent next end n x e = rw e refl
-
-pub walk-end : (next : ℕ → ℕ) (end n x : ℕ) → x ≡ end → walk next end n x ≡ []
-unfolding walk
-walk-end next end zero x e = refl
-walk-end next end (suc n) x e = rw (eq-eqb x end e, walk) refl
-
-pub walk-on : (next : ℕ → ℕ) (end n x y : ℕ) → (n ≡ 0 → ⊥) → (x ≡ end → ⊥) → y ≡ next x → walk next end n x ≡ x ∷ walk next end (n - 1) y
-unfolding walk
-walk-on next end zero x y h g q = absurd (h refl)
-walk-on next end (suc n) x y h g q = by (eqb x end) (ne-eqb x end g) ∙ ap₂ (λ (k z : ℕ). x ∷ walk next end k z) (let e : n ≡ suc n - 1 = omega arith in e) (sym q)
-  where
-    by : (t : Bool) → t ≡ false → elim t [ true ↦ [] | false ↦ x ∷ walk next end n (next x) ] ≡ x ∷ walk next end n (next x)
-    by t e = rw e refl
 
 -- The set with one number more.
 pub also-kept : (met : List ℕ) (n : ℕ) (r : Bool) → r ≡ has met n → r ≡ true → met ≡ also-met met n

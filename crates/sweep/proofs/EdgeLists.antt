@@ -13,12 +13,14 @@ use Rattle.catalogue.specs.Live.{gather}
 use Rattle.catalogue.specs.Lent.{lay}
 use Rattle.catalogue.specs.Sweep.{Swept-edge, first-of, source-at}
 use Rattle.catalogue.specs.declared.writes.Write.the-variants.{EdgeLink, NewFirst, NewEdge}
+use Rattle.catalogue.proofs.Members.{all-each, all-any, all-append, all-map}
+use Rattle.catalogue.proofs.Cases.{same?, upd-at, upd-other}
+use Rattle.resting.specs.Rows.{Numbered}
 use Rattle.sweep.specs.Built.{committed, edge-write, with-edge, with-edges, with-lists}
 use Rattle.sweep.proofs.Agree.{Agree, lay-agree, committed-lay}
-use Rattle.sweep.proofs.Ends.{same?, upd-same, upd-other}
 use Rattle.sweep.proofs.NodeLaws.{first-written, next-written}
 use Rattle.sweep.proofs.Swept.{elink-of, swept-of}
-use Rattle.sweep.proofs.Sources.{Below, below-more, below-end, more-at, new-source, elink-new, last-apart, last-joined, elsewhere}
+use Rattle.sweep.proofs.Sources.{Below, more-at, new-source, elink-new, last-apart, last-joined, elsewhere}
 use Rattle.sweep.proofs.FirstEdges.{first-fresh, first-other, first-had}
 
 -- where a new edge stands: first of its list, or behind the last edge that was made, which is of the same list
@@ -37,7 +39,7 @@ module _ (ks : List ℤ) (es : List Swept-edge) (d : Swept-edge) (some : 1 ≤ d
   own-link : (f : ℕ → ℕ) → ((i : ℕ) → (i ≡ new → ⊥) → f i ≡ elink-of more′ i) → (i : ℕ) → upd f new (link edge-tail added) i ≡ elink-of more′ i
   own-link f rest i =
       elim (same? i new) [
-        | inl q ↦ upd-same f new (link edge-tail added) i q ∙ sym (elink-new es d some i q)
+        | inl q ↦ upd-at f new (link edge-tail added) i q ∙ sym (elink-new es d some i q)
         | inr q ↦ upd-other f new (link edge-tail added) i q ∙ rest i q
       ]
 
@@ -51,7 +53,7 @@ module _ (ks : List ℤ) (es : List Swept-edge) (d : Swept-edge) (some : 1 ≤ d
     vlink = λ i h. refl;
     first = λ i h.
         elim (same? i (d .source)) [
-          | inl q ↦ upd-same (λ j. link (first-of j es 1) plain) (d .source) (link new plain) i q
+          | inl q ↦ upd-at (λ j. link (first-of j es 1) plain) (d .source) (link new plain) i q
               ∙ ap (λ k. link k plain) (sym (first-fresh (d .source) es d 1 b refl) ∙ ap (λ j. first-of j more′ 1) (sym q))
           | inr q ↦ upd-other (λ j. link (first-of j es 1) plain) (d .source) (link new plain) i q ∙ ap (λ k. link k plain) (sym (first-other i es d 1 q))
         ];
@@ -94,10 +96,14 @@ module _ (ks : List ℤ) (es : List Swept-edge) (d : Swept-edge) (some : 1 ≤ d
       linked : (i : ℕ) → (i ≡ new → ⊥) → upd old p (link new added) i ≡ elink-of more′ i
       linked i n =
           elim (same? i p) [
-            | inl q ↦ upd-same old p (link new added) i q ∙ sym (last-joined es d some i (ap (source-at es) q ∙ s) (omega arith) (q ∙ e))
+            | inl q ↦ upd-at old p (link new added) i q ∙ sym (last-joined es d some i (ap (source-at es) q ∙ s) (omega arith) (q ∙ e))
             | inr q ↦ upd-other old p (link new added) i q ∙ upd-other (elink-of es) new (link edge-tail transit) i n
                 ∙ sym (elsewhere es d some i n (omega arith))
           ]
+
+below-more : (b c : ℕ) (es : List Swept-edge) → b ≤ c → Below b es → Below c es
+below-more b c es h l =
+    all-each (λ d. (1 ≤ d .source) × (d .source < b)) (λ d. (1 ≤ d .source) × (d .source < c)) (λ d g. let high = g .1 in (g .0, omega arith)) es l
 
 row-below : (s : ℕ) (es : List Swept-edge) (p : ℕ) → Row s es p → Below (suc s) es
 row-below s es p (first e b) = below-more s (suc s) es (omega arith) b
@@ -129,15 +135,6 @@ edge-laid ks es d n p e some r =
     ∙ committed-lay (commit (swept-of ks es) w) last
     ∙ lay-agree (commit (commit (swept-of ks es) w) last) (swept-of ks (es ++ (d ∷ []))) (row-agrees ks es d p some r)
 
--- the new numbers of a list rise by one
-abbrev pub Counted : (ℕ → ℕ) → ℕ → List ℕ → Type 0
-Counted number b [] = Unit {0}
-Counted number b (x ∷ l) = (number x ≡ b) × Counted number (suc b) l
-
-below-both : (b : ℕ) (es es′ : List Swept-edge) → Below b es → Below b es′ → Below b (es ++ es′)
-below-both b [] es′ h g = g
-below-both b (d ∷ es) es′ h g = (h .0, below-both b es es′ (h .1) g)
-
 module _ (keys : ℕ → ℤ) (targets : ℕ → ℕ) where
   -- an edge under the numbers of its source and its target
   abbrev pub made : ℕ → ℕ → Swept-edge
@@ -148,8 +145,8 @@ module _ (keys : ℕ → ℤ) (targets : ℕ → ℕ) where
   all-made number edges = gather (λ x. map (made (number x)) (edges x))
 
   below-made : (b s : ℕ) (l : List ℕ) → 1 ≤ s → s < b → Below b (map (made s) l)
-  below-made b s [] low high = tt
-  below-made b s (x ∷ l) low high = ((low, high), below-made b s l low high)
+  below-made b s l low high =
+      all-map (λ d. (1 ≤ d .source) × (d .source < b)) (made s) l (all-any (λ e. (1 ≤ s) × (s < b)) (λ e. (low, high)) l)
 
   module _ (ks : List ℤ) where
     edges-laid : (s : ℕ) → 1 ≤ s → (l : List ℕ) (es : List Swept-edge) (n p : ℕ) → n ≡ length es → Row s es p
@@ -160,11 +157,11 @@ module _ (keys : ℕ → ℤ) (targets : ℕ → ℕ) where
         let d : Swept-edge = made s x in
         let long : n + 1 ≡ length (es ++ (d ∷ [])) = omega (arith, length-append es (d ∷ [])) in
         ap (with-edges keys targets s l (n + 1) (n + 1)) (edge-laid ks es d n p e some r)
-        ∙ edges-laid s some l (es ++ (d ∷ [])) (n + 1) (n + 1) long (later es d refl refl long (below-end (suc s) es d (row-below s es p r) some (omega arith)))
+        ∙ edges-laid s some l (es ++ (d ∷ [])) (n + 1) (n + 1) long (later es d refl refl long (all-append (λ c. (1 ≤ c .source) × (c .source < suc s)) es (d ∷ []) (row-below s es p r) ((some, omega arith), tt)))
         ∙ ap (λ k. lay (swept-of ks k)) (append-assoc es (d ∷ []) (map (made s) l))
 
     module _ (number : ℕ → ℕ) (edges : ℕ → List ℕ) where
-      pub lists-laid : (l : List ℕ) (b : ℕ) (es : List Swept-edge) (n : ℕ) → 1 ≤ b → Counted number b l → Below b es → n ≡ length es
+      pub lists-laid : (l : List ℕ) (b : ℕ) (es : List Swept-edge) (n : ℕ) → 1 ≤ b → Numbered (λ i x. number x ≡ i) b l → Below b es → n ≡ length es
           → with-lists keys targets number edges l n (lay (swept-of ks es)) ≡ lay (swept-of ks (es ++ all-made number edges l))
       unfolding with-lists gather
       lists-laid [] b es n some c h e = ap (λ k. lay (swept-of ks k)) (sym (append-nil es))
@@ -175,6 +172,6 @@ module _ (keys : ℕ → ℤ) (targets : ℕ → ℕ) where
           ap (with-lists keys targets number edges l (n + length (edges x)))
           (edges-laid s here (edges x) es n edge-tail e (first refl (rw (c .0) h)))
           ∙ lists-laid l (suc b) (es ++ own) (n + length (edges x)) (omega arith) (c .1)
-          (below-both (suc b) es own (below-more b (suc b) es (omega arith) h) (below-made (suc b) s (edges x) here (omega (arith, c .0))))
+          (all-append (λ d. (1 ≤ d .source) × (d .source < suc b)) es own (below-more b (suc b) es (omega arith) h) (below-made (suc b) s (edges x) here (omega (arith, c .0))))
           (omega (arith, length-append es own, length-map (edges x) (made s)))
           ∙ ap (λ k. lay (swept-of ks k)) (append-assoc es own (all-made number edges l))

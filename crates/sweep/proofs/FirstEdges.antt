@@ -1,36 +1,31 @@
 -- The first edge of each source, where one more edge stands behind the others. Assumes nothing.
-use Prim.Native.Nat.{ℕ, suc, _+_}
-use mathlib.Core.Bool.{Bool, true, false}
+use Prim.Native.Nat.{ℕ, suc, _+_, _<_, _≤_}
 use mathlib.Core.List.{List, [], _∷_, _++_}
 use mathlib.Core.Logic.{inl, inr}
-use mathlib.Core.Path.{_≡_, refl, sym, ap, _∙_}
+use mathlib.Core.Path.{_≡_, refl, sym, _∙_}
 use native.Mathlib.Omega.{arith}
 use borrow.Author.Tests.{eq-eqb, ne-eqb}
 use lib.ListN.{length}
 use Rattle.catalogue.specs.Numbers.{edge-tail}
 use Rattle.catalogue.specs.Sweep.{Swept-edge, first-of}
-use Rattle.sweep.proofs.Ends.{same?}
+use Rattle.catalogue.proofs.Cases.{same?}
+use Rattle.catalogue.proofs.Members.{all-each}
+use Rattle.resting.specs.Blocks.{sees, passes}
 use Rattle.sweep.proofs.Sources.{Below}
 
 -- the first edge of a source, by the edges' order
 module _ (i : ℕ) (d : Swept-edge) (es : List Swept-edge) (k : ℕ) where
-  abbrev chosen : Bool → ℕ
-  chosen t = elim t [ true ↦ k | false ↦ first-of i es (suc k) ]
-
   first-here : i ≡ d .source → first-of i (d ∷ es) k ≡ k
-  unfolding first-of
-  first-here e = ap chosen (eq-eqb i (d .source) e)
+  first-here e = sees i d es k ∙ rw (eq-eqb i (d .source) e) refl
 
   first-on : (i ≡ d .source → ⊥) → first-of i (d ∷ es) k ≡ first-of i es (suc k)
-  unfolding first-of
-  first-on e = ap chosen (ne-eqb i (d .source) e)
+  first-on e = sees i d es k ∙ rw (ne-eqb i (d .source) e) refl
 
 -- by one more edge: a source that has none yet, another source, and one that has some
 pub first-fresh : (s : ℕ) (es : List Swept-edge) (d : Swept-edge) (k : ℕ) → Below s es → s ≡ d .source → first-of s (es ++ (d ∷ [])) k ≡ k + length es
-first-fresh s [] d k b e = first-here s d [] k e ∙ (let n : k ≡ k + 0 = omega arith in n)
-first-fresh s (x ∷ es) d k b e =
-    first-on s x (es ++ (d ∷ [])) k (omega (arith, b .0 .1)) ∙ first-fresh s es d (suc k) (b .1) e
-    ∙ (let n : suc k + length es ≡ k + length (x ∷ es) = omega arith in n)
+first-fresh s es d k b e =
+    passes s es (d ∷ []) k (all-each (λ c. (1 ≤ c .source) × (c .source < s)) (λ c. c .source ≡ s → ⊥) (λ c h. let low = h .1 in omega arith) es b)
+    ∙ first-here s d [] (k + length es) e
 
 none-found : (i k : ℕ) → first-of i [] k ≡ edge-tail
 unfolding first-of

@@ -7,7 +7,6 @@ pub mod EdgeCases
 pub mod ListCases
 pub mod Refusals
 pub mod Ends
-pub mod Members
 pub mod Agree
 pub mod Swept
 pub mod VertexLists
@@ -15,6 +14,4 @@ pub mod Sources
 pub mod FirstEdges
 pub mod EdgeLists
 pub mod NewNumbers
-pub mod Rising
-pub mod Targets
 pub mod Second

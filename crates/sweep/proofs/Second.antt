@@ -1,29 +1,32 @@
 -- What the two walks leave of a sound catalogue is the memory of its second catalogue, and there is room for it. Assumes nothing.
 use Prim.Native.Nat.{ℕ, _+_, _≤_}
-use mathlib.Core.Bool.{true}
+use mathlib.Core.Bool.{true, false}
 use mathlib.Core.List.{List, [], map}
 use mathlib.Core.Path.{_≡_, refl, sym, ap, _∙_}
 use native.Mathlib.Omega.{arith}
 use borrow.Author.Needs.{needs}
 use lib.IntN.{ℤ}
 use lib.ListN.{length, replicate}
-use Rattle.catalogue.specs.Tests.{member}
-use Rattle.catalogue.specs.Catalogue.{Catalogue, vertex-key, edge-key, fresh}
-use Rattle.catalogue.specs.Live.{next-vertex, edges-of, is-live, live-vertices, live-edges-of, gather}
-use Rattle.catalogue.specs.Soundness.{sweep, edge-sound, sound}
+use Rattle.catalogue.specs.Catalogue.{Catalogue, vertex-key, edge-key, edge-target, at-target, fresh}
+use Rattle.catalogue.specs.Live.{next-vertex, unmarked, live-vertices, live-edges-of, gather}
+use Rattle.catalogue.specs.Soundness.{sweep, edges-sound, target-sound, sound}
 use Rattle.catalogue.specs.Sweep.{renumbered, swept-edge, swept-edges, swept}
 use Rattle.catalogue.specs.Lent.{Memory, memory-of, catalogue-in, lay}
+use Rattle.catalogue.specs.declared.links.Target.{Target}
+use Rattle.catalogue.specs.declared.links.Target.the-variants as target
+use Rattle.catalogue.proofs.Members.{All, all-each, all-join, all-of, map-same}
+use Rattle.catalogue.proofs.Gathers.{gather-same}
+use Rattle.resting.specs.Sound.{lists-sound, edges-few}
+use Rattle.resting.specs.Vertices.{live-distinct, live-within, live-few}
+use Rattle.resting.specs.Edges.{Lives, live-target, targets-live}
 use Rattle.memory.specs.Memories.{Hold}
 use Rattle.survey.specs.Walks.{linked}
 use Rattle.listing.specs.Walks.{kept-from, unmarked-from, live-of}
 use Rattle.sweep.specs.Built.{with-vertices, numbered, number-of, target-number, lists-built}
 use Rattle.sweep.proofs.Agree.{lay-agree}
-use Rattle.sweep.proofs.Members.{gather-same, map-same}
 use Rattle.sweep.proofs.NodeLaws.{held}
 use Rattle.sweep.proofs.NewNumbers.{counted, placed}
-use Rattle.sweep.proofs.Rising.{live-distinct, live-numbers, live-few}
 use Rattle.sweep.proofs.Swept.{swept-of, swept-is}
-use Rattle.sweep.proofs.Targets.{targets-same, walk-sound, few-edges, list-sound}
 use Rattle.sweep.proofs.VertexLists.{fresh-agrees, vertices-laid}
 use Rattle.sweep.proofs.EdgeLists.{made, all-made, lists-laid}
 
@@ -37,17 +40,27 @@ module _ (C : Catalogue) (s : sound sweep C ≡ true) where
   abbrev number : ℕ → ℕ
   number = number-of table
 
-  renumbers : (y : ℕ) → member y live ≡ true → number y ≡ renumbered C y
-  renumbers y m = placed 254 live 0 (replicate 256 0) y (live-distinct C (walk-sound C s)) (live-numbers C (walk-sound C s)) refl m
+  renumbers : All (λ y. number y ≡ renumbered C y) live
+  renumbers = placed 256 live 0 (replicate 256 0) (live-distinct sweep C s) (live-within sweep C s) refl
 
-  list-same : (x : ℕ) → member x live ≡ true → map (made (edge-key C) (target-number C table) (number x)) (live-of C x) ≡ map (swept-edge C x) (live-edges-of C x)
+  target-same : (e : ℕ) (l : Target) → at-target l false (unmarked C) ≡ true → at-target l false (target-sound C e) ≡ true
+      → at-target l 0 number ≡ at-target l 0 (renumbered C)
+  target-same e (target.At y) u t = all-of (λ z. number z ≡ renumbered C z) live renumbers y (live-target C e y u t)
+  target-same e target.Torn u t = refl
+
+  list-same : (x : ℕ) → (edges-sound sweep C x ≡ true) × (number x ≡ renumbered C x)
+      → map (made (edge-key C) (target-number C table) (number x)) (live-of C x) ≡ map (swept-edge C x) (live-edges-of C x)
   unfolding kept-from
-  list-same x m =
-      map-same (is-live C) (edge-sound sweep C) (made (edge-key C) (target-number C table) (number x)) (swept-edge C x) (edges-of C x) (list-sound C s x m)
-      (λ e whole l i. record { source = renumbers x m i; target = targets-same C number (renumbered C) renumbers e whole l i; key = edge-key C e })
+  list-same x h =
+      map-same (made (edge-key C) (target-number C table) (number x)) (swept-edge C x) (live-edges-of C x)
+      (all-each (Lives C) (λ e. made (edge-key C) (target-number C table) (number x) e ≡ swept-edge C x e)
+      (λ e v i. record { source = h .1 i; target = target-same e (edge-target C e) (v .0) (v .1) i; key = edge-key C e })
+      (live-edges-of C x) (targets-live sweep C x (h .0)))
 
   edges-same : all-made (edge-key C) (target-number C table) number (live-of C) live ≡ swept-edges C
-  edges-same = gather-same _ _ live list-same
+  edges-same =
+      gather-same _ _ live
+      (all-each _ _ list-same live (all-join (λ x. edges-sound sweep C x ≡ true) (λ x. number x ≡ renumbered C x) live (lists-sound sweep C s) renumbers))
 
   built : lists-built C table live 0 (with-vertices (vertex-key C) live 0 (lay fresh)) ≡ lay (swept C)
   built =
@@ -55,7 +68,7 @@ module _ (C : Catalogue) (s : sound sweep C ≡ true) where
       ap (λ m. lists-built C table live 0 (with-vertices (vertex-key C) live 0 m)) (lay-agree fresh (swept-of [] []) fresh-agrees)
       ∙ ap (lists-built C table live 0) (vertices-laid (vertex-key C) live [] 0 refl)
       ∙ lists-laid (edge-key C) (target-number C table) ks number (live-of C) live 2 [] 0 (omega arith)
-      (counted 254 live 0 (replicate 256 0) (live-distinct C (walk-sound C s)) (live-numbers C (walk-sound C s)) refl) tt refl
+      (counted 256 live 0 (replicate 256 0) (live-distinct sweep C s) (live-within sweep C s) refl) tt refl
       ∙ ap (λ es. lay (swept-of ks es)) edges-same
       ∙ ap lay (sym (swept-is C))
 
@@ -69,11 +82,11 @@ module _ (keys : List ℤ) (words : List ℕ) (x : ℕ) (s : sound sweep (catalo
   walk-is = ap (λ y. unmarked-from (linked words) 256 y) e
 
   pub vertices-room : 0 + length (unmarked-from (linked words) 256 x) ≤ 254
-  vertices-room = omega (arith, ap length walk-is, live-few first-catalogue (walk-sound first-catalogue s))
+  vertices-room = omega (arith, ap length walk-is, live-few sweep first-catalogue s)
 
   pub edges-room : 0 + length (gather (live-of (linked words)) (unmarked-from (linked words) 256 x)) ≤ 2047
   unfolding kept-from
-  edges-room = omega (arith, ap (λ l. length (gather (live-of (linked words)) l)) walk-is, few-edges first-catalogue s)
+  edges-room = omega (arith, ap (λ l. length (gather (live-of (linked words)) l)) walk-is, edges-few sweep first-catalogue s)
 
   pub second-laid : (k₀ : List ℤ) (w₀ : List ℕ) (m m′ : Memory) (numbers : List ℕ) → Hold k₀ w₀ fresh
       → m ≡ with-vertices (vertex-key first-catalogue) (unmarked-from (linked words) 256 x) 0 (memory-of k₀ w₀)

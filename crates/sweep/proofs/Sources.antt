@@ -10,7 +10,9 @@ use lib.Dec.{eqb}
 use Rattle.catalogue.specs.Tests.{pick, upd}
 use Rattle.catalogue.specs.Numbers.{edge-tail, added, link}
 use Rattle.catalogue.specs.Sweep.{Swept-edge, source-at, next-swept-edge}
-use Rattle.sweep.proofs.Ends.{below?, upd-same, upd-other, getD-end}
+use Rattle.catalogue.proofs.Members.{All, all-at, all-map}
+use Rattle.catalogue.proofs.Cases.{lt-or, upd-at, upd-other}
+use Rattle.sweep.proofs.Ends.{getD-end}
 use Rattle.sweep.proofs.Swept.{elink-of}
 
 abbrev source-of : Swept-edge → ℕ
@@ -18,24 +20,13 @@ source-of d = d .source
 
 -- every source is a vertex number below another
 abbrev pub Below : ℕ → List Swept-edge → Type 0
-Below b [] = Unit {0}
-Below b (d ∷ es) = ((1 ≤ d .source) × (d .source < b)) × Below b es
-
-pub below-more : (b c : ℕ) (es : List Swept-edge) → b ≤ c → Below b es → Below c es
-below-more b c [] h l = tt
-below-more b c (d ∷ es) h l = ((l .0 .0, omega (arith, l .0 .1)), below-more b c es h (l .1))
-
-pub below-end : (b : ℕ) (es : List Swept-edge) (d : Swept-edge) → Below b es → 1 ≤ d .source → d .source < b → Below b (es ++ (d ∷ []))
-below-end b [] d l low high = ((low, high), tt)
-below-end b (x ∷ es) d l low high = (l .0, below-end b es d (l .1) low high)
+Below b = All (λ d. (1 ≤ d .source) × (d .source < b))
 
 -- what the sources are, by number
 below-at : (b : ℕ) (es : List Swept-edge) (i : ℕ) → Below b es → 1 ≤ i → i ≤ length es → (1 ≤ source-at es i) × (source-at es i < b)
-below-at b [] zero l h k = absurd (omega arith)
-below-at b [] (suc i) l h k = absurd (omega arith)
-below-at b (d ∷ es) zero l h k = absurd (omega arith)
-below-at b (d ∷ es) (suc zero) l h k = l .0
-below-at b (d ∷ es) (suc (suc i)) l h k = below-at b es (suc i) (l .1) (omega arith) (omega arith)
+below-at b es zero l h k = absurd (omega arith)
+below-at b es (suc i) l h k =
+    all-at (λ n. (1 ≤ n) × (n < b)) 0 (map source-of es) i (all-map (λ n. (1 ≤ n) × (n < b)) source-of es l) (omega (arith, length-map es source-of))
 
 past-end : (es : List Swept-edge) (i : ℕ) → length es < i → source-at es i ≡ 0
 past-end es i h = List·getD-eq-default (0 ∷ map source-of es) 0 {n = i} (let long : length (map source-of es) < i = omega (arith, length-map es source-of) in omega arith)
@@ -80,7 +71,7 @@ module _ (es : List Swept-edge) (d : Swept-edge) (some : 1 ≤ d .source) where
   old-source i h = more-at source-of 0 es d i ∙ upd-other (source-at es) (1 + length es) (d .source) i (omega arith)
 
   pub new-source : (i : ℕ) → i ≡ 1 + length es → source-at more i ≡ d .source
-  new-source i h = more-at source-of 0 es d i ∙ upd-same (source-at es) (1 + length es) (d .source) i h
+  new-source i h = more-at source-of 0 es d i ∙ upd-at (source-at es) (1 + length es) (d .source) i h
 
   -- before the last edge nothing changes, and the new one is the last of its list
   elink-old : (i : ℕ) → i < length es → elink-of more i ≡ elink-of es i
@@ -114,4 +105,4 @@ module _ (es : List Swept-edge) (d : Swept-edge) (some : 1 ≤ d .source) where
       ∙ ap (λ k. link k added) (goes-on more i (old-source i (omega arith) ∙ s ∙ sym (new-source (suc i) (omega arith))) ∙ (let n : suc i ≡ 1 + length es = omega arith in n))
 
   pub elsewhere : (i : ℕ) → (i ≡ 1 + length es → ⊥) → (i ≡ length es → ⊥) → elink-of more i ≡ elink-of es i
-  elsewhere i n m = elim (below? i (length es)) [ inl h ↦ elink-old i h | inr h ↦ elink-beyond i (omega arith) ]
+  elsewhere i n m = elim (lt-or i (length es)) [ inl h ↦ elink-old i h | inr h ↦ elink-beyond i (omega arith) ]

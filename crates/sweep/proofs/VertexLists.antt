@@ -15,9 +15,10 @@ use Rattle.catalogue.specs.Catalogue.{fresh}
 use Rattle.catalogue.specs.Writes.{commit}
 use Rattle.catalogue.specs.Lent.{lay}
 use Rattle.catalogue.specs.Sweep.{first-of, next-swept}
+use Rattle.catalogue.proofs.Cases.{same?, lt-or, upd-at, upd-other}
 use Rattle.sweep.specs.Built.{last-vertex, vertex-write, with-vertices}
 use Rattle.sweep.proofs.Agree.{Agree, lay-agree, committed-lay}
-use Rattle.sweep.proofs.Ends.{same?, below?, upd-same, upd-other, getD-end}
+use Rattle.sweep.proofs.Ends.{getD-end}
 use Rattle.sweep.proofs.Swept.{vlink-of, elink-of, swept-of}
 
 -- the links of n vertices, by number
@@ -52,13 +53,13 @@ module _ (n m : ℕ) (more : m ≡ suc n) where
   new = upd (upd (vlink-of n) (2 + n) (link tail plain)) (last-vertex n) (link (2 + n) plain)
 
   new-at : (i : ℕ) → i ≡ last-vertex n → new i ≡ link (2 + n) plain
-  new-at i e = upd-same (upd (vlink-of n) (2 + n) (link tail plain)) (last-vertex n) (link (2 + n) plain) i e
+  new-at i e = upd-at (upd (vlink-of n) (2 + n) (link tail plain)) (last-vertex n) (link (2 + n) plain) i e
 
   new-off : (i : ℕ) → (i ≡ last-vertex n → ⊥) → new i ≡ upd (vlink-of n) (2 + n) (link tail plain) i
   new-off i e = upd-other (upd (vlink-of n) (2 + n) (link tail plain)) (last-vertex n) (link (2 + n) plain) i e
 
   new-end : (i : ℕ) → (i ≡ last-vertex n → ⊥) → i ≡ 2 + n → new i ≡ link tail plain
-  new-end i e q = new-off i e ∙ upd-same (vlink-of n) (2 + n) (link tail plain) i q
+  new-end i e q = new-off i e ∙ upd-at (vlink-of n) (2 + n) (link tail plain) i q
 
   new-old : (i : ℕ) → (i ≡ last-vertex n → ⊥) → (i ≡ 2 + n → ⊥) → new i ≡ vlink-of n i
   new-old i e q = new-off i e ∙ upd-other (vlink-of n) (2 + n) (link tail plain) i q
@@ -83,7 +84,7 @@ module _ (n m : ℕ) (more : m ≡ suc n) where
 
       at : (i : ℕ) → 2 ≤ i → new i ≡ vlink-of m i
       at i h =
-          elim (below? i (1 + n)) [
+          elim (lt-or i (1 + n)) [
             | inl b ↦ new-old i (elim (last-is n) [ none z e ↦ omega arith | some g e ↦ omega arith ]) (omega arith)
                 ∙ vlink-in n i h (omega arith) ∙ ap (λ k. link k plain) (linked-on n i (omega arith) ∙ sym (linked-on m i (omega arith)))
                 ∙ sym (vlink-in m i h (omega arith))
@@ -136,12 +137,12 @@ fresh-agrees = record {
 }
   where
     keyed : (i : ℕ) → upd (λ n. pos 0) head least i ≡ getD (least ∷ (pos 0 ∷ [])) i (pos 0)
-    keyed zero = upd-same (λ n. pos 0) head least 0 refl
+    keyed zero = upd-at (λ n. pos 0) head least 0 refl
     keyed (suc zero) = upd-other (λ n. pos 0) head least 1 (omega arith)
     keyed (suc (suc i)) = upd-other (λ n. pos 0) head least (suc (suc i)) (omega arith)
 
     linked : (i : ℕ) → upd (λ n. 0) head (link tail plain) i ≡ vlink-of 0 i
-    linked zero = upd-same (λ n. 0) head (link tail plain) 0 refl
+    linked zero = upd-at (λ n. 0) head (link tail plain) 0 refl
     linked (suc zero) = upd-other (λ n. 0) head (link tail plain) 1 (omega arith)
     linked (suc (suc i)) = upd-other (λ n. 0) head (link tail plain) (suc (suc i)) (omega arith) ∙ sym (vlink-out 0 (suc (suc i)) (omega arith))
 

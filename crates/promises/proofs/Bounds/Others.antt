@@ -11,7 +11,6 @@ use Rattle.catalogue.specs.Workers.{busy}
 use Rattle.catalogue.proofs.Picks.{pick-both, clash}
 use Rattle.row.specs.Base.{upd-other}
 use Rattle.row.specs.Machine.Runs
-use Rattle.row.specs.Machine.World.{World}
 use Rattle.row.specs.Machine.Runs.{Conf, act}
 use Rattle.row.specs.Runs.Course.{Both, act-both}
 use Rattle.row.specs.Steps.Writes.{deed-rest}

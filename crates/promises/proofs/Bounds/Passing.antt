@@ -7,7 +7,7 @@ use lib.Dec.{eqb, leb}
 use lib.IntN.{ℤ}
 use lib.Signed.{_<ℤ_, ltZ, <ℤ-irrefl}
 use Rattle.catalogue.specs.Tests.{pick}
-use Rattle.resting.specs.Keys.{risen}
+use Rattle.catalogue.proofs.Keys.{risen}
 use Rattle.row.specs.Base.{<ℤ-trans, ltZ-true}
 use Rattle.row.specs.Lists.Edges.{InList}
 use Rattle.row.specs.Tests.{and-true}

@@ -12,7 +12,6 @@ use Rattle.catalogue.specs.Workers.{worker-at, busy}
 use Rattle.catalogue.proofs.Picks.{clash}
 use Rattle.row.specs.Base.{lt-or, upd-at}
 use Rattle.row.specs.Machine.Runs
-use Rattle.row.specs.Machine.World.{World}
 use Rattle.row.specs.Machine.Moves.{move}
 use Rattle.row.specs.Machine.Runs.{resting, Conf, act}
 use Rattle.promises.specs.Moments.{All, each, Keyed}

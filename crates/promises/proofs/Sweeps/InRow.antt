@@ -8,7 +8,7 @@ use lib.Dec.{ltb}
 use lib.Signed.{_<ℤ_}
 use Rattle.catalogue.specs.Tests.{pick, table-from}
 use Rattle.catalogue.proofs.Picks.{pick-both}
-use Rattle.resting.specs.Members.{All}
+use Rattle.catalogue.proofs.Members.{All}
 use Rattle.resting.specs.Rows.{row}
 use Rattle.row.specs.Base.{same?, lt-or}
 use Rattle.row.specs.Lists.Links.{Run, stop, go, run-trans, View, Follows, Sorted}

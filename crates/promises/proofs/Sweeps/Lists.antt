@@ -18,7 +18,7 @@ use Rattle.catalogue.specs.Soundness.{Asks, tag-fits, target-sound, edge-sound,
 use Rattle.catalogue.specs.Sweep.{swept}
 use Rattle.catalogue.specs.declared.links.EdgeLink.{EdgeLink}
 use Rattle.catalogue.proofs.Picks.{pick-both, clash}
-use Rattle.resting.specs.Members.{All, every-all}
+use Rattle.catalogue.proofs.Members.{All, every-all}
 use Rattle.resting.specs.Rows.{row}
 use Rattle.resting.specs.Sound.{edge-rises, whole, lists-sound}
 use Rattle.resting.specs.Shape.{live-row}

@@ -1,15 +1,16 @@
 -- Keys in rising order: what a list of nodes whose keys rise tells of its nodes. Assumes nothing.
 use Prim.Native.Nat.{ℕ}
 use mathlib.Core.Bool.{Bool, true, false}
-use mathlib.Core.List.{List, [], _∷_, _++_, map}
+use mathlib.Core.List.{List, [], _∷_, map}
 use mathlib.Core.Path.{_≡_, refl, sym, subst}
 use native.Mathlib.Omega.{arith}
 use lib.IntN.{ℤ, pos, negsuc}
 use lib.Dec.{T, ltb→lt, lt→ltb}
 use lib.Signed.{ltZ, _<ℤ_, _≤ℤ_, ltZ-yes, ltZ-no, <ℤ-irrefl, <ℤ-≤ℤ-trans, clashℤ}
 use Rattle.catalogue.specs.Tests.{keep}
 use Rattle.catalogue.proofs.Picks.{pick-both}
-use Rattle.resting.specs.Members.{All, all-each, all-parts, map-all, keys-kept}
+use Rattle.catalogue.proofs.Members.{All, all-each, map-all, keys-kept}
+use Rattle.catalogue.proofs.Distinct.{Distinct}
 
 through : (a b c : ℤ) → T (ltZ a b) → T (ltZ b c) → T (ltZ a c)
 through (pos a) (pos b) (pos c) h k = omega (arith, ltb→lt, lt→ltb)
@@ -44,17 +45,6 @@ pub ≤ℤ-<ℤ-trans : {a b c : ℤ} → a ≤ℤ b → b <ℤ c → a <ℤ c
 abbrev pub Rising : List ℤ → Type 0
 Rising [] = Unit {0}
 Rising (k ∷ ks) = All (λ l. k <ℤ l) ks × Rising ks
-
--- no number twice
-abbrev pub Distinct : List ℕ → Type 0
-Distinct [] = Unit {0}
-Distinct (x ∷ l) = All (λ y. y ≡ x → ⊥) l × Distinct l
-
-pub distinct-parts : (front : List ℕ) (x : ℕ) (rest : List ℕ) → Distinct (front ++ x ∷ rest) → All (λ y. y ≡ x → ⊥) front × All (λ y. y ≡ x → ⊥) rest
-distinct-parts [] x rest d = (tt, d .0)
-distinct-parts (z ∷ front) x rest d =
-    let r = distinct-parts front x rest (d .1) in
-    ((λ e. all-parts (λ y. y ≡ z → ⊥) front (x ∷ rest) (d .0) .1 .0 (sym e), r .0), r .1)
 
 module _ (key : ℕ → ℤ) where
   pub rising-keep : (test : ℕ → Bool) (l : List ℕ) → Rising (map key l) → Rising (map key (keep test l))

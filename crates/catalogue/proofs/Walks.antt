@@ -1,18 +1,49 @@
--- A walk as a list of nodes, each of which leads to the one after it: from the walk to that, and back. Where keys rise from node to node they rise through the list. Assumes nothing.
-use Prim.Native.Nat.{ℕ, zero, suc, _+_, _≤_, _<_}
+-- A walk by its clauses; and a walk as a list of nodes, each of which leads to the one after it: from the walk to that, and back. Where keys rise from node to node they rise through the list. Assumes nothing.
+use Prim.Native.Nat.{ℕ, zero, suc, _+_, _-_, _≤_, _<_}
 use mathlib.Core.Bool.{Bool, true, false}
 use mathlib.Core.List.{List, [], _∷_, map}
-use mathlib.Core.Path.{_≡_, refl, sym, ap, subst}
+use mathlib.Core.Path.{_≡_, refl, sym, ap, ap₂, _∙_, subst}
 use native.Mathlib.Omega.{arith}
 use lib.IntN.{ℤ}
 use lib.ListN.{length}
 use lib.Dec.{eqb}
 use lib.Signed.{_<ℤ_}
 use borrow.Author.Tests.{eqb-true, eqb-false, eq-eqb, ne-eqb}
 use Rattle.catalogue.specs.Live.{walk}
-use Rattle.resting.specs.Members.{All}
-use Rattle.resting.specs.Pigeons.{pigeons}
-use Rattle.resting.specs.Keys.{<ℤ-trans, Rising, rising-distinct}
+use Rattle.catalogue.proofs.Members.{All}
+use Rattle.catalogue.proofs.Distinct.{pigeons}
+use Rattle.catalogue.proofs.Keys.{<ℤ-trans, Rising, rising-distinct}
+
+-- A walk by its clauses, from what the code tests.
+pub walk-spent : (next : ℕ → ℕ) (end n x : ℕ) → n ≡ 0 → walk next end n x ≡ []
+unfolding walk
+walk-spent next end n x e = rw e refl
+
+pub walk-end : (next : ℕ → ℕ) (end n x : ℕ) → x ≡ end → walk next end n x ≡ []
+unfolding walk
+walk-end next end zero x e = refl
+walk-end next end (suc n) x e = rw (eq-eqb x end e, walk) refl
+
+pub walk-step : (next : ℕ → ℕ) (end n x : ℕ) → (x ≡ end → ⊥) → walk next end (suc n) x ≡ x ∷ walk next end n (next x)
+unfolding walk
+walk-step next end n x g = by (eqb x end) (ne-eqb x end g)
+  where
+    by : (t : Bool) → t ≡ false → elim t [ true ↦ [] | false ↦ x ∷ walk next end n (next x) ] ≡ x ∷ walk next end n (next x)
+    by t e = rw e refl
+
+pub walk-on : (next : ℕ → ℕ) (end n x y : ℕ) → (n ≡ 0 → ⊥) → (x ≡ end → ⊥) → y ≡ next x → walk next end n x ≡ x ∷ walk next end (n - 1) y
+walk-on next end zero x y h g q = absurd (h refl)
+walk-on next end (suc n) x y h g q = walk-step next end n x g ∙ ap₂ (λ (k z : ℕ). x ∷ walk next end k z) (let e : n ≡ suc n - 1 = omega arith in e) (sym q)
+
+-- no more nodes than there is fuel
+pub walk-bounded : (next : ℕ → ℕ) (end n x : ℕ) → length (walk next end n x) ≤ n
+unfolding walk
+walk-bounded next end zero x = omega arith
+walk-bounded next end (suc n) x =
+    let h : length (walk next end n (next x)) ≤ n = walk-bounded next end n (next x) in
+    elim (eqb x end) as (λ t. length {A = ℕ} (elim t [ true ↦ [] | false ↦ x ∷ walk next end n (next x) ]) ≤ suc n) [ true ↦ omega arith | false ↦ omega arith ]
+
+-- ---- a walk as a list
 
 module _ (next : ℕ → ℕ) (end : ℕ) where
   -- from x on stand exactly these nodes, none of them the end; `Last` holds of where the last one leads
@@ -38,14 +69,8 @@ module _ (next : ℕ → ℕ) (end : ℕ) where
   unfolding walk
   run-walk zero x [] r b = refl
   run-walk zero x (y ∷ l) r b = absurd (omega arith)
-  run-walk (suc n) x [] r b = by (eqb x end) (eq-eqb x end r)
-    where
-      by : (t : Bool) → t ≡ true → _≡_ {A = List ℕ} (elim t [ true ↦ [] | false ↦ x ∷ walk next end n (next x) ]) []
-      by t e = rw e refl
-  run-walk (suc n) x (y ∷ l) r b = by (eqb x end) (ne-eqb x end (r .1)) (r .0) (run-walk n (next x) l (r .2) (omega arith))
-    where
-      by : (t : Bool) → t ≡ false → x ≡ y → walk next end n (next x) ≡ l → _≡_ {A = List ℕ} (elim t [ true ↦ [] | false ↦ x ∷ walk next end n (next x) ]) (y ∷ l)
-      by t e q h = rw (e, h, q) refl
+  run-walk (suc n) x [] r b = walk-end next end (suc n) x r
+  run-walk (suc n) x (y ∷ l) r b = walk-step next end n x (r .1) ∙ ap₂ (λ (z : ℕ) (k : List ℕ). z ∷ k) (r .0) (run-walk n (next x) l (r .2) (omega arith))
 
   module _ (key : ℕ → ℤ) where
     -- each node leads to one of greater key

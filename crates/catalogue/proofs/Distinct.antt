@@ -1,16 +1,26 @@
--- Different numbers of a range are no more than the range has. Assumes nothing.
+-- Lists of numbers with no number twice: different numbers of a range are no more than the range has. Assumes nothing.
 use Prim.Native.Nat.{ℕ, zero, suc, _+_, _<_, _≤_}
 use mathlib.Core.Bool.{Bool, true, false}
-use mathlib.Core.List.{List, [], _∷_}
+use mathlib.Core.List.{List, [], _∷_, _++_}
 use mathlib.Core.Path.{_≡_, refl, sym, _∙_}
 use native.Mathlib.Omega.{arith}
 use lib.ListN.{length}
 use lib.Dec.{eqb}
 use borrow.Author.Tests.{eqb-true, eqb-false, ne-eqb}
 use Rattle.catalogue.specs.Tests.{pick, keep}
 use Rattle.catalogue.proofs.Picks.{pick-both, clash}
-use Rattle.resting.specs.Members.{All, all-each, all-keep, kept-all, keep-all}
-use Rattle.resting.specs.Keys.{Distinct}
+use Rattle.catalogue.proofs.Members.{All, all-each, all-parts, all-keep, kept-all, keep-all}
+
+-- no number twice
+abbrev pub Distinct : List ℕ → Type 0
+Distinct [] = Unit {0}
+Distinct (x ∷ l) = All (λ y. y ≡ x → ⊥) l × Distinct l
+
+pub distinct-parts : (front : List ℕ) (x : ℕ) (rest : List ℕ) → Distinct (front ++ x ∷ rest) → All (λ y. y ≡ x → ⊥) front × All (λ y. y ≡ x → ⊥) rest
+distinct-parts [] x rest d = (tt, d .0)
+distinct-parts (z ∷ front) x rest d =
+    let r = distinct-parts front x rest (d .1) in
+    ((λ e. all-parts (λ y. y ≡ z → ⊥) front (x ∷ rest) (d .0) .1 .0 (sym e), r .0), r .1)
 
 abbrev other : ℕ → ℕ → Bool
 other v y = pick (eqb y v) false true
@@ -21,7 +31,7 @@ is-other v y h = rw (ne-eqb y v h) refl
 not-same : (v y : ℕ) → other v y ≡ true → y ≡ v → ⊥
 not-same v y = pick-both (λ t. t ≡ true → y ≡ v → ⊥) (eqb y v) false true (λ q e. clash (cc)) (λ q e. eqb-false y v q)
 
-distinct-keep : (test : ℕ → Bool) (l : List ℕ) → Distinct l → Distinct (keep test l)
+pub distinct-keep : (test : ℕ → Bool) (l : List ℕ) → Distinct l → Distinct (keep test l)
 unfolding keep
 distinct-keep test [] h = tt
 distinct-keep test (x ∷ l) h =

@@ -1,15 +1,15 @@
 -- What holds of every member of a list: how it passes through the tests and the lists that the definitions make. Assumes nothing.
-use Prim.Native.Nat.{ℕ, zero, suc, _<_}
-use mathlib.Core.Bool.{Bool, true, false, false≢true}
+use Prim.Native.Nat.{ℕ, zero, suc, _<_, _≤_}
+use mathlib.Core.Bool.{Bool, true, false}
 use mathlib.Core.List.{List, [], _∷_, _++_, map}
-use mathlib.Core.Path.{_≡_, refl, ap}
+use mathlib.Core.Path.{_≡_, refl, ap, ap₂}
 use native.Mathlib.Omega.{arith}
 use lib.ListN.{length, getD}
 use lib.Dec.{eqb}
-use borrow.Author.Tests.{eq-eqb}
+use borrow.Author.Tests.{eq-eqb, eqb-true}
 use Rattle.catalogue.specs.Tests.{pick, keep, every, member}
 use Rattle.catalogue.specs.Live.{gather}
-use Rattle.catalogue.proofs.Picks.{pick-both}
+use Rattle.catalogue.proofs.Picks.{clash, both-true, pick-both}
 
 abbrev pub All : {A : Type 0} → (A → Type 0) → List A → Type 0
 All P [] = Unit {0}
@@ -19,11 +19,6 @@ All P (x ∷ l) = P x × All P l
 pub chosen : {A : Type 0} (t : Bool) (a b : A) → elim t [ true ↦ a | false ↦ b ] ≡ pick t a b
 chosen true a b = refl
 chosen false a b = refl
-
--- both tests of a choice that came out true
-pub both-true : (t s : Bool) → pick t s false ≡ true → (t ≡ true) × (s ≡ true)
-both-true true s e = (refl, e)
-both-true false s e = absurd (false≢true e)
 
 module _ {A : Type 0} where
   pub all-each : (P Q : A → Type 0) → ((x : A) → P x → Q x) → (l : List A) → All P l → All Q l
@@ -93,6 +88,20 @@ module _ {A : Type 0} where
   keep-all test [] h = refl
   keep-all test (x ∷ l) h = rw (h .0) (ap (λ r. x ∷ r) (keep-all test l (h .1)))
 
+  pub keep-short : (test : A → Bool) (l : List A) → length (keep test l) ≤ length l
+  unfolding keep
+  keep-short test [] = omega arith
+  keep-short test (x ∷ l) =
+      let h : length (keep test l) ≤ length l = keep-short test l in
+      pick-both (λ k. length k ≤ suc (length l)) (test x) (x ∷ keep test l) (keep test l) (λ e. omega arith) (λ e. omega arith)
+
+  -- two functions that agree on the members
+  pub map-same : {B : Type 0} (f g : A → B) (l : List A) → All (λ x. f x ≡ g x) l → map f l ≡ map g l
+  map-same f g [] h = refl
+  map-same f g (x ∷ l) h = ap₂ (λ b r. b ∷ r) (h .0) (map-same f g l (h .1))
+
+-- ---- the test of membership
+
 pub all-member : (l : List ℕ) → All (λ x. member x l ≡ true) l
 unfolding member
 all-member [] = tt
@@ -100,3 +109,24 @@ all-member (x ∷ l) = (
   rw (eq-eqb x x refl) refl,
   all-each (λ y. member y l ≡ true) (λ y. member y (x ∷ l) ≡ true) (λ y e. pick-both (λ t. t ≡ true) (eqb y x) true (member y l) (λ q. refl) (λ q. e)) l (all-member l),
 )
+
+pub all-of : (P : ℕ → Type 0) (l : List ℕ) → All P l → (y : ℕ) → member y l ≡ true → P y
+unfolding member
+all-of P [] h y m = clash (cc)
+all-of P (x ∷ l) h y m = by (eqb y x) refl m (all-of P l (h .1) y)
+  where
+    by : (t : Bool) → eqb y x ≡ t → pick t true (member y l) ≡ true → (member y l ≡ true → P y) → P y
+    by true e m rest = rw (eqb-true y x e) (h .0)
+    by false e m rest = rest m
+
+pub member-keep : (test : ℕ → Bool) (y : ℕ) (l : List ℕ) → member y l ≡ true → test y ≡ true → member y (keep test l) ≡ true
+unfolding member keep
+member-keep test y [] m e = m
+member-keep test y (x ∷ l) m e = by (eqb y x) refl (test x) refl m (λ n. member-keep test y l n e)
+  where
+    by : (t : Bool) → eqb y x ≡ t → (u : Bool) → test x ≡ u → pick t true (member y l) ≡ true → (member y l ≡ true → member y (keep test l) ≡ true)
+        → member y (pick u (x ∷ keep test l) (keep test l)) ≡ true
+    by true q true p n h = rw q refl
+    by true q false p n h = let same : y ≡ x = eqb-true y x q in clash (cc (ap test same))
+    by false q true p n h = rw q (h n)
+    by false q false p n h = h n

@@ -1,10 +1,24 @@
--- Lists gathered from parts: their lengths, and where a part stands. Assumes nothing.
-use Prim.Native.Nat.{ℕ, _+_}
+-- Lists that a function makes: a table of its values, and parts gathered one after the other. Their lengths, and where a part stands. Assumes nothing.
+use Prim.Native.Nat.{ℕ, zero, suc, _+_}
 use mathlib.Core.List.{List, [], _∷_, _++_, append-assoc}
 use mathlib.Core.Path.{_≡_, refl, sym, ap, ap₂, _∙_}
 use lib.ListN.{length, length-append}
+use Rattle.catalogue.specs.Tests.{table-from}
 use Rattle.catalogue.specs.Live.{gather}
-use Rattle.resting.specs.Members.{All}
+use Rattle.catalogue.proofs.Members.{All}
+
+pub length-table : {A : Type 0} (f : ℕ → A) (from n : ℕ) → length (table-from f from n) ≡ n
+unfolding table-from
+length-table f from zero = refl
+length-table f from (suc n) = ap suc (length-table f (suc from) n)
+
+pub gather-none : {A : Type 0} (f : ℕ → List A) → gather f [] ≡ []
+unfolding gather
+gather-none f = refl
+
+pub gather-first : {A : Type 0} (f : ℕ → List A) (x : ℕ) (xs : List ℕ) → gather f (x ∷ xs) ≡ f x ++ gather f xs
+unfolding gather
+gather-first f x xs = refl
 
 pub gather-append : {A : Type 0} (f : ℕ → List A) (a b : List ℕ) → gather f (a ++ b) ≡ gather f a ++ gather f b
 unfolding gather
