@@ -1,0 +1,2 @@
+-- Laws of a request by a lone worker.
+pub mod AskLaws

@@ -1,0 +1,2 @@
+-- What a request by a lone worker comes to.
+pub mod Asked
