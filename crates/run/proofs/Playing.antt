@@ -97,7 +97,7 @@ module _ (text : List ℕ) (c : Checked) (k : Is-script text c) where
 
   module _ (keys : List ℤ) (words l : List ℕ) (s : State) (place position : ℕ) (p : Playing text c keys words l s place position) where
     -- the lines of all replies leave room for one more
-    pub few-replies : s .replies ≤ 1024
+    few-replies : s .replies ≤ 1024
     few-replies = omega (arith, p .stands .counted, p .bounded .owing)
 
     pub few-bytes : s .end ≤ 11264

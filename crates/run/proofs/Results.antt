@@ -58,7 +58,7 @@ module _ (text : List ℕ) (c : Checked) (k : Is-script text c) (keys : List ℤ
   laid : memory-of keys words ≡ lay C
   laid = ap₂ memory-of (st .held .0) (st .held .1)
 
-  pub few-live : length (gather (live-edges-of (linked words)) (live-vertices (linked words))) ≤ most-edges
+  few-live : length (gather (live-edges-of (linked words)) (live-vertices (linked words))) ≤ most-edges
   few-live =
       let a : Agree (view (lay C)) C = agree-laid C in
       let same : gather (live-edges-of (linked words)) (live-vertices (linked words)) ≡ gather (live-edges-of C) (live-vertices C) =
@@ -66,7 +66,7 @@ module _ (text : List ℕ) (c : Checked) (k : Is-script text c) (keys : List ℤ
       omega (arith, ap length same, edges-few listing C (run-sound text (script-in text c) (k .reads)))
 
   -- what is printed is the result
-  pub printed-is : printed keys words (s .replies) (take (s .end) l) ≡ run-text (script-in text c)
+  printed-is : printed keys words (s .replies) (take (s .end) l) ≡ run-text (script-in text c)
   unfolding run-text
   printed-is =
       ap₂ (printed keys words) (st .counted) (st .lined) ∙ sym (text-parts (view (memory-of keys words)) replies)

@@ -53,7 +53,8 @@ module _ (text : List ℕ) (m : Memory) (s : State) (w : ℕ) where
 
 pub ruleset taking = (none-left, bad-line, needs)
 
-pub ruleset keys = (toZ-ofZ, sfits-of, needs)
+-- keys are passed on as they are
+pub ruleset key-args = (toZ-ofZ, sfits-of, needs)
 
 -- ---- the answer of a step
 
@@ -83,19 +84,18 @@ pub ruleset telling = (told-going, told-refused, told-reply, lines-going, lines-
 -- ---- one turn
 
 module _ (text : List ℕ) (m : Memory) (l : List ℕ) (s : State) (position w : ℕ) (x : Worker) (b : Bool) (here : x ≡ worker-at (s .table) w) (e : b ≡ busy-at (x .place)) where
+  pub on-worker : b ≡ true → busy (s .table) w ≡ true
+  on-worker h = busy-flag (s .table) w x b true here e h
+
   pub step-turn : b ≡ true → (q : Request) (o : Outcome) (r : State) (keys′ : List ℤ) (words′ l′ : List ℕ)
       → q ≡ request-of (x .place) → Steps m (s .table) w o keys′ words′ → r ≡ told s (o .table) position w (q .code) (o .answer)
       → l′ ≡ lines-told l (s .end) position w (q .code) (o .answer) → Turns text m l s position w r keys′ words′ l′
   step-turn h q o r keys′ words′ l′ asked stepped a c =
-      let on : busy (s .table) w ≡ true = busy-flag (s .table) w x b true here e h in
       let code : q .code ≡ request-of (worker-at (s .table) w .place) .code = ap (λ (q : Request). q .code) asked ∙ ap (λ (x : Worker). request-of (x .place) .code) here in
-      rw on (
+      rw (on-worker h) (
         a ∙ ap₂ (λ (o : Outcome) (n : ℕ). told s (o .table) position w n (o .answer)) (stepped .0) code,
         (stepped .1 .0, (stepped .1 .1, c ∙ ap₂ (λ (o : Outcome) (n : ℕ). lines-told l (s .end) position w n (o .answer)) (stepped .0) code)),
       )
 
   pub take-turn : b ≡ false → (r : State) → r ≡ taken-next text m s w → Turns text m l s position w r (m .keys) (m .words) l
   take-turn h r a = rw (busy-flag (s .table) w x b false here e h) (a, (refl, (refl, refl)))
-
-  pub on-worker : b ≡ true → busy (s .table) w ≡ true
-  on-worker h = busy-flag (s .table) w x b true here e h

@@ -1,5 +1,5 @@
 -- No request left, a line that is none, or the request that stands there is taken up. Assumes nothing.
-use Rattle.run.proofs.TurnLaws.{taking, taken-line, keys}
+use Rattle.run.proofs.TurnLaws.{taking, taken-line, key-args}
 use borrow.Author.Needs.{needs}
 use Rattle.run.proofs.takes.take_next.Statement.{statement}
 use Rattle.run.proofs.takes.take_next.Tie as tie
@@ -55,7 +55,7 @@ returns-3 c =
     let line = up .before .before .before .before .before in
     let read = line .before .before in
     taken-line _ _ _ _ (read .before .before .if1 .left) _ (read .read-request .ensures) _ _ (line .request .given .1) _ _ _ (up .take-up .ensures)
-    (search keys) (search keys)
+    (search key-args) (search key-args)
 
 pub take-next-spec : {M : Type 1} → statement M
 take-next-spec =
