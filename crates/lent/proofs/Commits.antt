@@ -1,4 +1,4 @@
--- Catalogues that agree agree after the same write: each field is stored to at the same number. Assumes nothing.
+-- Catalogues that agree agree after the same write: each field is stored to at the same number. So a write to laid memory leaves the memory of the written catalogue. Assumes nothing.
 use Prim.Native.Nat.{ℕ, _<_}
 use mathlib.Core.Path.{_≡_, refl, ap}
 use lib.IntN.{ℤ}
@@ -7,9 +7,10 @@ use Rattle.catalogue.specs.Tests.{pick, upd}
 use Rattle.catalogue.specs.Numbers.{vertex-pool, edge-pool, link, edge-tail, plain, transit}
 use Rattle.catalogue.specs.Catalogue.{Catalogue}
 use Rattle.catalogue.specs.Writes.{with-vertex-link, with-first, with-edge-link, with-vertex, with-edge, commit}
+use Rattle.catalogue.specs.Lent.{view, lay}
 use Rattle.catalogue.specs.declared.writes.Write.{Write}
 use Rattle.catalogue.specs.declared.writes.Write.the-variants.{Nothing, VertexLink, NewVertex, FirstEdge, EdgeLink, NewFirst, NewEdge}
-use Rattle.lent.proofs.Agrees.{Agree}
+use Rattle.lent.proofs.Agrees.{Agree, agree-laid, lay-agree}
 
 upd-same : {A : Type 0} (bound : ℕ) (f g : ℕ → A) (i : ℕ) (v : A) → ((n : ℕ) → n < bound → f n ≡ g n)
     → (n : ℕ) → n < bound → upd f i v n ≡ upd g i v n
@@ -86,3 +87,7 @@ commit-agree a (FirstEdge u next) = first-linked a u (link next plain)
 commit-agree a (EdgeLink n next tag) = edge-linked a n (link next tag)
 commit-agree a (NewFirst n key target next u) = first-linked (edge-filled a n key target next) u (link n plain)
 commit-agree a (NewEdge n key target next p tag) = edge-linked (edge-filled a n key target next) p (link n tag)
+
+-- a write to memory that holds a catalogue
+pub committed-lay : (C : Catalogue) (write : Write) → lay (commit (view (lay C)) write) ≡ lay (commit C write)
+committed-lay C write = lay-agree (commit-agree (agree-laid C) write)

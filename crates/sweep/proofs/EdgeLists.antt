@@ -17,7 +17,8 @@ use Rattle.catalogue.proofs.Members.{all-each, all-any, all-append, all-map}
 use Rattle.catalogue.proofs.Cases.{same?, upd-at, upd-other}
 use Rattle.resting.specs.Rows.{Numbered}
 use Rattle.sweep.specs.Built.{committed, edge-write, with-edge, with-edges, with-lists}
-use Rattle.sweep.proofs.Agree.{Agree, lay-agree, committed-lay}
+use Rattle.lent.proofs.Agrees.{Agree, lay-agree}
+use Rattle.lent.proofs.Commits.{committed-lay}
 use Rattle.sweep.proofs.NodeLaws.{first-written, next-written}
 use Rattle.sweep.proofs.Swept.{elink-of, swept-of}
 use Rattle.sweep.proofs.Sources.{Below, more-at, new-source, elink-new, last-apart, last-joined, elsewhere}
@@ -47,19 +48,19 @@ module _ (ks : List ℤ) (es : List Swept-edge) (d : Swept-edge) (some : 1 ≤ d
       → Agree (commit (commit (swept-of ks es) (NewFirst new (d .key) (d .target) edge-tail (d .source))) (EdgeLink new edge-tail added)) (swept-of ks more′)
   unfolding commit
   first-agrees b = record {
-    vertices-out = refl;
-    edges-out = omega (arith, length-append es (d ∷ []));
-    vkey = λ i h. refl;
-    vlink = λ i h. refl;
-    first = λ i h.
+    vertices = refl;
+    edges = omega (arith, length-append es (d ∷ []));
+    vkeys = λ i h. refl;
+    vlinks = λ i h. refl;
+    firsts = λ i h.
         elim (same? i (d .source)) [
           | inl q ↦ upd-at (λ j. link (first-of j es 1) plain) (d .source) (link new plain) i q
               ∙ ap (λ k. link k plain) (sym (first-fresh (d .source) es d 1 b refl) ∙ ap (λ j. first-of j more′ 1) (sym q))
           | inr q ↦ upd-other (λ j. link (first-of j es 1) plain) (d .source) (link new plain) i q ∙ ap (λ k. link k plain) (sym (first-other i es d 1 q))
         ];
-    ekey = λ i h. sym (more-at (λ (c : Swept-edge). c .key) (pos 0) es d i);
-    target = λ i h. sym (more-at (λ (c : Swept-edge). c .target) 0 es d i);
-    elink = λ i h. own-link (upd (elink-of es) new (link edge-tail transit)) linked i;
+    ekeys = λ i h. sym (more-at (λ (c : Swept-edge). c .key) (pos 0) es d i);
+    targets = λ i h. sym (more-at (λ (c : Swept-edge). c .target) 0 es d i);
+    elinks = λ i h. own-link (upd (elink-of es) new (link edge-tail transit)) linked i;
   }
     where
       linked : (i : ℕ) → (i ≡ new → ⊥) → upd (elink-of es) new (link edge-tail transit) i ≡ elink-of more′ i
@@ -75,19 +76,19 @@ module _ (ks : List ℤ) (es : List Swept-edge) (d : Swept-edge) (some : 1 ≤ d
       → Agree (commit (commit (swept-of ks es) (NewEdge new (d .key) (d .target) edge-tail p added)) (EdgeLink new edge-tail added)) (swept-of ks more′)
   unfolding commit
   later-agrees p e low s had = record {
-    vertices-out = refl;
-    edges-out = omega (arith, length-append es (d ∷ []));
-    vkey = λ i h. refl;
-    vlink = λ i h. refl;
-    first = λ i h.
+    vertices = refl;
+    edges = omega (arith, length-append es (d ∷ []));
+    vkeys = λ i h. refl;
+    vlinks = λ i h. refl;
+    firsts = λ i h.
         ap (λ k. link k plain)
         (elim (same? i (d .source)) [
           | inl q ↦ ap (λ j. first-of j es 1) q ∙ sym had ∙ ap (λ j. first-of j more′ 1) (sym q)
           | inr q ↦ sym (first-other i es d 1 q)
         ]);
-    ekey = λ i h. sym (more-at (λ (c : Swept-edge). c .key) (pos 0) es d i);
-    target = λ i h. sym (more-at (λ (c : Swept-edge). c .target) 0 es d i);
-    elink = λ i h. own-link (upd old p (link new added)) linked i;
+    ekeys = λ i h. sym (more-at (λ (c : Swept-edge). c .key) (pos 0) es d i);
+    targets = λ i h. sym (more-at (λ (c : Swept-edge). c .target) 0 es d i);
+    elinks = λ i h. own-link (upd old p (link new added)) linked i;
   }
     where
       old : ℕ → ℕ
@@ -133,7 +134,7 @@ edge-laid ks es d n p e some r =
     ap (λ k. with-edge k (d .key) (d .target) (d .source) p (lay (swept-of ks es))) e
     ∙ ap (λ m. committed m last) (committed-lay (swept-of ks es) w)
     ∙ committed-lay (commit (swept-of ks es) w) last
-    ∙ lay-agree (commit (commit (swept-of ks es) w) last) (swept-of ks (es ++ (d ∷ []))) (row-agrees ks es d p some r)
+    ∙ lay-agree (row-agrees ks es d p some r)
 
 module _ (keys : ℕ → ℤ) (targets : ℕ → ℕ) where
   -- an edge under the numbers of its source and its target

@@ -34,13 +34,6 @@ module _ (next : ℕ → ℕ) (end : ℕ) (test : ℕ → Bool) (fuel x : ℕ) w
     pub kept-built : {A : Type 0} (f : List ℕ → A) → r ≡ true → f (x ∷ kept (fuel - 1) y) ≡ f (kept fuel x)
     kept-built f h = sym (ap f (going-on next end test fuel x y true r some e q h on))
 
-    module _ (n last : ℕ) where
-      pub left-counted : r ≡ false → last ≡ n + length (kept (fuel - 1) y) → last ≡ n + length (kept fuel x)
-      left-counted h counted = omega (arith, left-built length h)
-
-      pub kept-counted : r ≡ true → last ≡ n + 1 + length (kept (fuel - 1) y) → last ≡ n + length (kept fuel x)
-      kept-counted h counted = omega (arith, kept-built length h)
-
     -- room for the node, and for the rest
     module _ (n limit : ℕ) (room : n + length (kept fuel x) ≤ limit) where
       pub left-room : r ≡ false → n + length (kept (fuel - 1) y) ≤ limit

@@ -23,7 +23,7 @@ use Rattle.memory.specs.Memories.{Hold}
 use Rattle.survey.specs.Walks.{linked}
 use Rattle.listing.specs.Walks.{kept-from, unmarked-from, live-of}
 use Rattle.sweep.specs.Built.{with-vertices, numbered, number-of, target-number, lists-built}
-use Rattle.sweep.proofs.Agree.{lay-agree}
+use Rattle.lent.proofs.Agrees.{lay-agree}
 use Rattle.sweep.proofs.NodeLaws.{held}
 use Rattle.sweep.proofs.NewNumbers.{counted, placed}
 use Rattle.sweep.proofs.Swept.{swept-of, swept-is}
@@ -65,7 +65,7 @@ module _ (C : Catalogue) (s : sound sweep C ≡ true) where
   built : lists-built C table live 0 (with-vertices (vertex-key C) live 0 (lay fresh)) ≡ lay (swept C)
   built =
       let ks = map (vertex-key C) live in
-      ap (λ m. lists-built C table live 0 (with-vertices (vertex-key C) live 0 m)) (lay-agree fresh (swept-of [] []) fresh-agrees)
+      ap (λ m. lists-built C table live 0 (with-vertices (vertex-key C) live 0 m)) (lay-agree fresh-agrees)
       ∙ ap (lists-built C table live 0) (vertices-laid (vertex-key C) live [] 0 refl)
       ∙ lists-laid (edge-key C) (target-number C table) ks number (live-of C) live 2 [] 0 (omega arith)
       (counted 256 live 0 (replicate 256 0) (live-distinct sweep C s) (live-within sweep C s) refl) tt refl

@@ -47,12 +47,12 @@ module _ (next : ℕ → ℕ) (end : ℕ) (test : ℕ → Bool) (fuel x : ℕ) w
       pub vertices-left : r ≡ false → m′ ≡ built keys n m rest → m′ ≡ built keys n m (kept fuel x)
       vertices-left h later = later ∙ left-built next end test fuel x y r some e q on (built keys n m) h
 
-      pub vertices-kept : (m″ : Memory) (key key′ : ℤ) → r ≡ true → key′ ≡ key → key ≡ keys x → m′ ≡ committed m (vertex-write n key′)
-          → m″ ≡ built keys (n + 1) m′ rest → m″ ≡ built keys n m (kept fuel x)
+      pub vertices-kept : (m″ : Memory) → r ≡ true → m′ ≡ committed m (vertex-write n (keys x)) → m″ ≡ built keys (n + 1) m′ rest
+          → m″ ≡ built keys n m (kept fuel x)
       unfolding with-vertices
-      vertices-kept m″ key key′ h same here made later =
+      vertices-kept m″ h made later =
           later
-          ∙ ap (with-vertices keys rest (n + 1)) (made ∙ ap (λ k. committed m (vertex-write n k)) (same ∙ here))
+          ∙ ap (with-vertices keys rest (n + 1)) made
           ∙ kept-built next end test fuel x y r some e q on (built keys n m) h
 
     module _ (n : ℕ) (numbers last : List ℕ) where

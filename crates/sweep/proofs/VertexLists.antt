@@ -17,7 +17,8 @@ use Rattle.catalogue.specs.Lent.{lay}
 use Rattle.catalogue.specs.Sweep.{first-of, next-swept}
 use Rattle.catalogue.proofs.Cases.{same?, lt-or, upd-at, upd-other}
 use Rattle.sweep.specs.Built.{last-vertex, vertex-write, with-vertices}
-use Rattle.sweep.proofs.Agree.{Agree, lay-agree, committed-lay}
+use Rattle.lent.proofs.Agrees.{Agree, lay-agree}
+use Rattle.lent.proofs.Commits.{committed-lay}
 use Rattle.sweep.proofs.Ends.{getD-end}
 use Rattle.sweep.proofs.Swept.{vlink-of, elink-of, swept-of}
 
@@ -112,28 +113,28 @@ vertex-agrees ks k =
     let n = length ks in
     let long : length (ks ++ (k ∷ [])) ≡ suc n = omega (arith, length-append ks (k ∷ [])) in
     record {
-      vertices-out = omega (arith, long);
-      edges-out = refl;
-      vkey = λ i h. sym (getD-end (least ∷ (pos 0 ∷ ks)) k (pos 0) (2 + n) i (omega arith));
-      vlink = λ i h. new-link n (length (ks ++ (k ∷ []))) long i;
-      first = λ i h. no-first (2 + n) i;
-      ekey = λ i h. refl;
-      target = λ i h. refl;
-      elink = λ i h. refl;
+      vertices = omega (arith, long);
+      edges = refl;
+      vkeys = λ i h. sym (getD-end (least ∷ (pos 0 ∷ ks)) k (pos 0) (2 + n) i (omega arith));
+      vlinks = λ i h. new-link n (length (ks ++ (k ∷ []))) long i;
+      firsts = λ i h. no-first (2 + n) i;
+      ekeys = λ i h. refl;
+      targets = λ i h. refl;
+      elinks = λ i h. refl;
     }
 
 -- the fresh catalogue is that of no vertices
 pub fresh-agrees : Agree fresh (swept-of [] [])
 unfolding first-of next-swept
 fresh-agrees = record {
-  vertices-out = refl;
-  edges-out = refl;
-  vkey = λ i h. keyed i;
-  vlink = λ i h. linked i;
-  first = λ i h. refl;
-  ekey = λ i h. empty (pos 0) i;
-  target = λ i h. empty 0 i;
-  elink = λ i h. unlinked i;
+  vertices = refl;
+  edges = refl;
+  vkeys = λ i h. keyed i;
+  vlinks = λ i h. linked i;
+  firsts = λ i h. refl;
+  ekeys = λ i h. empty (pos 0) i;
+  targets = λ i h. empty 0 i;
+  elinks = λ i h. unlinked i;
 }
   where
     keyed : (i : ℕ) → upd (λ n. pos 0) head least i ≡ getD (least ∷ (pos 0 ∷ [])) i (pos 0)
@@ -162,6 +163,6 @@ vertices-laid keys (x ∷ l) ks n e =
     ap (with-vertices keys l (n + 1))
     (committed-lay (swept-of ks []) (vertex-write n (keys x))
     ∙ ap (λ k. lay (commit (swept-of ks []) (vertex-write k (keys x)))) e
-    ∙ lay-agree (commit (swept-of ks []) (vertex-write (length ks) (keys x))) (swept-of (ks ++ (keys x ∷ [])) []) (vertex-agrees ks (keys x)))
+    ∙ lay-agree (vertex-agrees ks (keys x)))
     ∙ vertices-laid keys l (ks ++ (keys x ∷ [])) (n + 1) (omega (arith, length-append ks (keys x ∷ [])))
     ∙ ap (λ k. lay (swept-of k [])) (append-assoc ks (keys x ∷ []) (map keys l))

@@ -1,5 +1,6 @@
 -- What the walks of a sweep leave in the second memory, by the nodes that they keep: each one becomes a new node behind the one before.
 use Prim.Native.Nat.{ℕ, _+_}
+use mathlib.Core.Bool.{Bool}
 use mathlib.Core.List.{List, [], _∷_}
 use lib.IntN.{ℤ}
 use lib.ListN.{length, getD, set}
@@ -12,6 +13,7 @@ use Rattle.catalogue.specs.Lent.{Memory, view, lay}
 use Rattle.catalogue.specs.declared.writes.Write.{Write}
 use Rattle.catalogue.specs.declared.writes.Write.the-variants.{NewVertex, EdgeLink, NewFirst, NewEdge}
 use Rattle.listing.specs.Walks.{live-of}
+use Rattle.sweep.specs.declared.copies.Tip.{Tip}
 
 -- memory after a write
 abbrev pub committed : Memory → Write → Memory
@@ -48,6 +50,13 @@ with-edge n key target source p m = committed (committed m (edge-write n key tar
 -- the new number of an edge's target
 abbrev pub target-number : Catalogue → List ℕ → ℕ → ℕ
 target-number C numbers e = at-target (edge-target C e) 0 (number-of numbers)
+
+-- one edge at the tip of its list, where it is made at all, and the tip after it
+unfoldable pub copied : Bool → Tip → ℤ → ℕ → Memory → Memory
+copied made tip key target m = pick made (with-edge (tip .n) key target (tip .source) (tip .p) m) m
+
+unfoldable pub tip-after : Bool → Tip → Tip
+tip-after made tip = pick made (record { source = tip .source; n = tip .n + 1; p = tip .n + 1 }) tip
 
 -- the edges of one source
 unfoldable pub with-edges : (ℕ → ℤ) → (ℕ → ℕ) → ℕ → List ℕ → ℕ → ℕ → Memory → Memory

@@ -8,14 +8,10 @@ ghost use Rattle.catalogue.specs.Lent.{Sized, memory-of, catalogue-in};
 ghost use Rattle.survey.specs.Walks.{linked};
 ghost use Rattle.listing.specs.Walks.{unmarked-from, live-from, live-of};
 ghost use Rattle.sweep.specs.Built.{with-vertices, numbered, number-of, edges-built, lists-built};
-use crate::nodes::add_edge;
-use crate::nodes::add_vertex;
-use crate::nodes::put_number;
-use crate::nodes::target_number;
-use memory::reads::edge_key;
-use memory::reads::vertex_key;
+use crate::copies::Tip;
+use crate::copies::copy_edge;
+use crate::copies::copy_vertex;
 use survey::tests::first_edge;
-use survey::tests::is_live;
 use survey::tests::next_edge;
 use survey::tests::next_vertex;
 use survey::tests::unmarked;
@@ -46,9 +42,7 @@ pub fn sweep_vertices(
     }
     let next = next_vertex(words, x);
     if unmarked(words, x) {
-        let key = vertex_key(keys, x);
-        add_vertex(new_keys, new_words, n, key);
-        put_number(numbers, x, n);
+        copy_vertex(keys, new_keys, new_words, numbers, n, x);
         return sweep_vertices(
             keys,
             words,
@@ -63,60 +57,40 @@ pub fn sweep_vertices(
     sweep_vertices(keys, words, new_keys, new_words, numbers, n, next, fuel - 1)
 }
 
-// n edges are made, of which p is the last one with this source.
+// The live edges from e on, at the tip of their list; answers how many edges are made then.
 pub fn sweep_edges_of(
     keys: &[i32],
     words: &[u32],
     numbers: &[u8],
     new_keys: &mut [i32],
     new_words: &mut [u32],
-    source: u8,
-    n: u16,
-    p: u16,
+    tip: Tip,
     e: u16,
     fuel: u16,
 ) -> u16
     requires { ⌜ Sized (now keys) (now words) ⌝ }
     requires { ⌜ Sized (now «new_keys») (now «new_words») ⌝ }
     requires { ⌜ length (now numbers) ≡ 256 ⌝ }
-    requires { ⌜ p < 2048 ⌝ }
-    requires { ⌜ n + length (live-from (linked (now words)) fuel e) ≤ 2047 ⌝ }
-    ensures { λ r. ⌜ memory-of (now («new_keys» .exit)) (now («new_words» .exit)) ≡ edges-built (catalogue-in (now (keys .entry)) (now (words .entry))) (now (numbers .entry)) source (live-from (linked (now (words .entry))) fuel e) n p (memory-of (now («new_keys» .entry)) (now («new_words» .entry))) ⌝ }
-    ensures { λ r. ⌜ r ≡ n + length (live-from (linked (now (words .entry))) fuel e) ⌝ }
+    requires { ⌜ tip .p < 2048 ⌝ }
+    requires { ⌜ tip .n + length (live-from (linked (now words)) fuel e) ≤ 2047 ⌝ }
+    ensures { λ r. ⌜ memory-of (now («new_keys» .exit)) (now («new_words» .exit)) ≡ edges-built (catalogue-in (now (keys .entry)) (now (words .entry))) (now (numbers .entry)) (tip .source) (live-from (linked (now (words .entry))) fuel e) (tip .n) (tip .p) (memory-of (now («new_keys» .entry)) (now («new_words» .entry))) ⌝ }
+    ensures { λ r. ⌜ r ≡ tip .n + length (live-from (linked (now (words .entry))) fuel e) ⌝ }
 {
     if fuel == 0 {
-        return n;
+        return tip.n;
     }
     if e == 0 {
-        return n;
+        return tip.n;
     }
     let next = next_edge(words, e);
-    if is_live(words, e) {
-        let key = edge_key(keys, e);
-        let target = target_number(words, numbers, e);
-        add_edge(new_keys, new_words, n, key, target, source, p);
-        return sweep_edges_of(
-            keys,
-            words,
-            numbers,
-            new_keys,
-            new_words,
-            source,
-            n + 1,
-            n + 1,
-            next,
-            fuel - 1,
-        );
-    }
+    let after = copy_edge(keys, words, numbers, new_keys, new_words, tip, e);
     sweep_edges_of(
         keys,
         words,
         numbers,
         new_keys,
         new_words,
-        source,
-        n,
-        p,
+        after,
         next,
         fuel - 1,
     )
@@ -142,18 +116,8 @@ pub fn sweep_list(
     let at = x as usize;
     let source = numbers[at];
     let first = first_edge(words, x);
-    sweep_edges_of(
-        keys,
-        words,
-        numbers,
-        new_keys,
-        new_words,
-        source,
-        n,
-        0,
-        first,
-        2048,
-    )
+    let tip = Tip { source, n, p: 0 };
+    sweep_edges_of(keys, words, numbers, new_keys, new_words, tip, first, 2048)
 }
 
 // n edges are made, all of vertices before x.

@@ -1,4 +1,4 @@
--- The fuel falls at each edge, which is made where the definition keeps it. Assumes nothing.
+-- The fuel falls at each edge, which is copied as the definition keeps it. Assumes nothing.
 use Rattle.sweep.proofs.EdgeCases.{edge-cases}
 use Prim.Native.Nat.{ℕ, _<_}
 use borrow.Fn.Kinds.{In}
@@ -6,16 +6,13 @@ use borrow.Fn.PlainCycle.{Measures, is, falls, and}
 use Rattle.sweep.proofs.walks.sweep_edges_of.Reads as sweep-edges-of
 use Rattle.sweep.proofs.walks.sweep_edges_of.Kinds as sweep-edges-of-kinds
 use Rattle.sweep.proofs.walks.+sweep_edges_of.Lts-sweep_edges_of as sweep-edges-of-lts
-use Rattle.memory.proofs.reads.edge_key.Reads as edge-key-reads
-use Rattle.survey.proofs.tests.is_live.Reads as is-live-reads
 use Rattle.survey.proofs.tests.next_edge.Reads as next-edge-reads
-use Rattle.sweep.proofs.nodes.add_edge.Reads as add-edge-reads
-use Rattle.sweep.proofs.nodes.target_number.Reads as target-number-reads
+use Rattle.sweep.proofs.copies.copy_edge.Reads as copy-edge-reads
 use Rattle.sweep.proofs.walks.+sweep_edges_of.{statement}
 use Rattle.sweep.proofs.walks.+sweep_edges_of.Tie.{close}
 
 abbrev μ-sweep-edges-of : Measures 5 sweep-edges-of-kinds.ps ℕ
-μ-sweep-edges-of κs a = a .1 .1 .1 .1 .1 .1 .1 .1 .1 .0
+μ-sweep-edges-of κs a = a .1 .1 .1 .1 .1 .1 .1 .0
 
 abbrev sweep-edges-of-at : ℕ → In 5 sweep-edges-of-kinds.ps
 sweep-edges-of-at t =
@@ -38,14 +35,8 @@ abbrev heard : ℕ → sweep-edges-of-lts.Claims
 heard t = (
   next-edge-reads.Asked,
   next-edge-reads.Learnt,
-  is-live-reads.Asked,
-  is-live-reads.Learnt,
-  edge-key-reads.Asked,
-  edge-key-reads.Learnt,
-  target-number-reads.Asked,
-  target-number-reads.Learnt,
-  add-edge-reads.Asked,
-  add-edge-reads.Learnt,
+  copy-edge-reads.Asked,
+  copy-edge-reads.Learnt,
   sweep-edges-of-below t,
   sweep-edges-of.Post,
 )
@@ -59,23 +50,8 @@ sweep-edges-of-returns-2 t c = (search edge-cases, search edge-cases)
 sweep-edges-of-next-edge-requires : (t : ℕ) → sweep-edges-of-lts.Need-next-edge-requires (heard t) (sweep-edges-of-at t) sweep-edges-of.Post
 sweep-edges-of-next-edge-requires t c κs = search edge-cases
 
-sweep-edges-of-is-live-requires : (t : ℕ) → sweep-edges-of-lts.Need-is-live-requires (heard t) (sweep-edges-of-at t) sweep-edges-of.Post
-sweep-edges-of-is-live-requires t c κs = search edge-cases
-
-sweep-edges-of-edge-key-requires : (t : ℕ) → sweep-edges-of-lts.Need-edge-key-requires (heard t) (sweep-edges-of-at t) sweep-edges-of.Post
-sweep-edges-of-edge-key-requires t c κs = search edge-cases
-
-sweep-edges-of-target-number-requires : (t : ℕ) → sweep-edges-of-lts.Need-target-number-requires (heard t) (sweep-edges-of-at t) sweep-edges-of.Post
-sweep-edges-of-target-number-requires t c κs = search edge-cases
-
-sweep-edges-of-add-edge-requires : (t : ℕ) → sweep-edges-of-lts.Need-add-edge-requires (heard t) (sweep-edges-of-at t) sweep-edges-of.Post
-sweep-edges-of-add-edge-requires t c κs = search edge-cases
-
-sweep-edges-of-add-sweep-edges-of : (t : ℕ) → sweep-edges-of-lts.Need-add-sweep-edges-of (heard t) (sweep-edges-of-at t) sweep-edges-of.Post
-sweep-edges-of-add-sweep-edges-of t c = search edge-cases
-
-sweep-edges-of-add-sweep-edges-of-2 : (t : ℕ) → sweep-edges-of-lts.Need-add-sweep-edges-of-2 (heard t) (sweep-edges-of-at t) sweep-edges-of.Post
-sweep-edges-of-add-sweep-edges-of-2 t c = search edge-cases
+sweep-edges-of-copy-edge-requires : (t : ℕ) → sweep-edges-of-lts.Need-copy-edge-requires (heard t) (sweep-edges-of-at t) sweep-edges-of.Post
+sweep-edges-of-copy-edge-requires t c κs = (search edge-cases, (search edge-cases, (search edge-cases, (search edge-cases, search edge-cases))))
 
 sweep-edges-of-sub-sweep-edges-of : (t : ℕ) → sweep-edges-of-lts.Need-sub-sweep-edges-of (heard t) (sweep-edges-of-at t) sweep-edges-of.Post
 sweep-edges-of-sub-sweep-edges-of t c = search edge-cases
@@ -92,21 +68,6 @@ sweep-edges-of-same-length-2 t c = search edge-cases
 sweep-edges-of-returns-3 : (t : ℕ) → sweep-edges-of-lts.Need-returns-3 (heard t) (sweep-edges-of-at t) sweep-edges-of.Post
 sweep-edges-of-returns-3 t c = (search edge-cases, search edge-cases)
 
-sweep-edges-of-sub-sweep-edges-of-2 : (t : ℕ) → sweep-edges-of-lts.Need-sub-sweep-edges-of-2 (heard t) (sweep-edges-of-at t) sweep-edges-of.Post
-sweep-edges-of-sub-sweep-edges-of-2 t c = search edge-cases
-
-sweep-edges-of-sweep-edges-of-requires-2 : (t : ℕ) → sweep-edges-of-lts.Need-sweep-edges-of-requires-2 (heard t) (sweep-edges-of-at t) sweep-edges-of.Post
-sweep-edges-of-sweep-edges-of-requires-2 t c κs = (search edge-cases, (search edge-cases, (search edge-cases, (search edge-cases, (search edge-cases, search edge-cases)))))
-
-sweep-edges-of-same-length-3 : (t : ℕ) → sweep-edges-of-lts.Need-same-length-3 (heard t) (sweep-edges-of-at t) sweep-edges-of.Post
-sweep-edges-of-same-length-3 t c = search edge-cases
-
-sweep-edges-of-same-length-4 : (t : ℕ) → sweep-edges-of-lts.Need-same-length-4 (heard t) (sweep-edges-of-at t) sweep-edges-of.Post
-sweep-edges-of-same-length-4 t c = search edge-cases
-
-sweep-edges-of-returns-4 : (t : ℕ) → sweep-edges-of-lts.Need-returns-4 (heard t) (sweep-edges-of-at t) sweep-edges-of.Post
-sweep-edges-of-returns-4 t c = (search edge-cases, search edge-cases)
-
 pub +sweep-edges-of-spec : {M : Type 1} → statement M
 +sweep-edges-of-spec = close μ-sweep-edges-of λ t. sweep-edges-of-lts.spec (heard t)
     (sweep-edges-of-at t)
@@ -114,19 +75,9 @@ pub +sweep-edges-of-spec : {M : Type 1} → statement M
     (sweep-edges-of-returns t)
     (sweep-edges-of-returns-2 t)
     (sweep-edges-of-next-edge-requires t)
-    (sweep-edges-of-is-live-requires t)
-    (sweep-edges-of-edge-key-requires t)
-    (sweep-edges-of-target-number-requires t)
-    (sweep-edges-of-add-edge-requires t)
-    (sweep-edges-of-add-sweep-edges-of t)
-    (sweep-edges-of-add-sweep-edges-of-2 t)
+    (sweep-edges-of-copy-edge-requires t)
     (sweep-edges-of-sub-sweep-edges-of t)
     (sweep-edges-of-sweep-edges-of-requires t)
     (sweep-edges-of-same-length t)
     (sweep-edges-of-same-length-2 t)
     (sweep-edges-of-returns-3 t)
-    (sweep-edges-of-sub-sweep-edges-of-2 t)
-    (sweep-edges-of-sweep-edges-of-requires-2 t)
-    (sweep-edges-of-same-length-3 t)
-    (sweep-edges-of-same-length-4 t)
-    (sweep-edges-of-returns-4 t)

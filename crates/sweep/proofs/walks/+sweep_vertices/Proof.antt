@@ -6,11 +6,9 @@ use borrow.Fn.PlainCycle.{Measures, is, falls, and}
 use Rattle.sweep.proofs.walks.sweep_vertices.Reads as sweep-vertices
 use Rattle.sweep.proofs.walks.sweep_vertices.Kinds as sweep-vertices-kinds
 use Rattle.sweep.proofs.walks.+sweep_vertices.Lts-sweep_vertices as sweep-vertices-lts
-use Rattle.memory.proofs.reads.vertex_key.Reads as vertex-key-reads
 use Rattle.survey.proofs.tests.next_vertex.Reads as next-vertex-reads
 use Rattle.survey.proofs.tests.unmarked.Reads as unmarked-reads
-use Rattle.sweep.proofs.nodes.add_vertex.Reads as add-vertex-reads
-use Rattle.sweep.proofs.nodes.put_number.Reads as put-number-reads
+use Rattle.sweep.proofs.copies.copy_vertex.Reads as copy-vertex-reads
 use Rattle.sweep.proofs.walks.+sweep_vertices.{statement}
 use Rattle.sweep.proofs.walks.+sweep_vertices.Tie.{close}
 
@@ -40,12 +38,8 @@ heard t = (
   next-vertex-reads.Learnt,
   unmarked-reads.Asked,
   unmarked-reads.Learnt,
-  vertex-key-reads.Asked,
-  vertex-key-reads.Learnt,
-  add-vertex-reads.Asked,
-  add-vertex-reads.Learnt,
-  put-number-reads.Asked,
-  put-number-reads.Learnt,
+  copy-vertex-reads.Asked,
+  copy-vertex-reads.Learnt,
   sweep-vertices-below t,
   sweep-vertices.Post,
 )
@@ -62,14 +56,8 @@ sweep-vertices-next-vertex-requires t c κs = search vertex-cases
 sweep-vertices-unmarked-requires : (t : ℕ) → sweep-vertices-lts.Need-unmarked-requires (heard t) (sweep-vertices-at t) sweep-vertices.Post
 sweep-vertices-unmarked-requires t c κs = search vertex-cases
 
-sweep-vertices-vertex-key-requires : (t : ℕ) → sweep-vertices-lts.Need-vertex-key-requires (heard t) (sweep-vertices-at t) sweep-vertices.Post
-sweep-vertices-vertex-key-requires t c κs = search vertex-cases
-
-sweep-vertices-add-vertex-requires : (t : ℕ) → sweep-vertices-lts.Need-add-vertex-requires (heard t) (sweep-vertices-at t) sweep-vertices.Post
-sweep-vertices-add-vertex-requires t c κs = search vertex-cases
-
-sweep-vertices-put-number-requires : (t : ℕ) → sweep-vertices-lts.Need-put-number-requires (heard t) (sweep-vertices-at t) sweep-vertices.Post
-sweep-vertices-put-number-requires t c κs = search vertex-cases
+sweep-vertices-copy-vertex-requires : (t : ℕ) → sweep-vertices-lts.Need-copy-vertex-requires (heard t) (sweep-vertices-at t) sweep-vertices.Post
+sweep-vertices-copy-vertex-requires t c κs = (search vertex-cases, (search vertex-cases, (search vertex-cases, search vertex-cases)))
 
 sweep-vertices-add-sweep-vertices : (t : ℕ) → sweep-vertices-lts.Need-add-sweep-vertices (heard t) (sweep-vertices-at t) sweep-vertices.Post
 sweep-vertices-add-sweep-vertices t c = search vertex-cases
@@ -118,9 +106,7 @@ pub +sweep-vertices-spec : {M : Type 1} → statement M
     (sweep-vertices-returns-2 t)
     (sweep-vertices-next-vertex-requires t)
     (sweep-vertices-unmarked-requires t)
-    (sweep-vertices-vertex-key-requires t)
-    (sweep-vertices-add-vertex-requires t)
-    (sweep-vertices-put-number-requires t)
+    (sweep-vertices-copy-vertex-requires t)
     (sweep-vertices-add-sweep-vertices t)
     (sweep-vertices-sub-sweep-vertices t)
     (sweep-vertices-sweep-vertices-requires t)
