@@ -1,15 +1,16 @@
--- Lists of numbers with no number twice: different numbers of a range are no more than the range has. Assumes nothing.
+-- Lists of numbers with no number twice, kept and gathered; and different numbers of a range are no more than the range has. Assumes nothing.
 use Prim.Native.Nat.{ℕ, zero, suc, _+_, _<_, _≤_}
 use mathlib.Core.Bool.{Bool, true, false}
 use mathlib.Core.List.{List, [], _∷_, _++_}
-use mathlib.Core.Path.{_≡_, refl, sym, _∙_}
+use mathlib.Core.Path.{_≡_, refl, sym, ap, _∙_}
 use native.Mathlib.Omega.{arith}
 use lib.ListN.{length}
 use lib.Dec.{eqb}
 use borrow.Author.Tests.{eqb-true, eqb-false, ne-eqb}
 use Rattle.catalogue.specs.Tests.{pick, keep}
+use Rattle.catalogue.specs.Live.{gather}
 use Rattle.catalogue.proofs.Picks.{pick-both, clash}
-use Rattle.catalogue.proofs.Members.{All, all-each, all-parts, all-keep, kept-all, keep-all}
+use Rattle.catalogue.proofs.Members.{All, all-each, all-join, all-append, all-parts, all-gather, all-keep, kept-all, keep-all}
 
 -- no number twice
 abbrev pub Distinct : List ℕ → Type 0
@@ -21,6 +22,27 @@ distinct-parts [] x rest d = (tt, d .0)
 distinct-parts (z ∷ front) x rest d =
     let r = distinct-parts front x rest (d .1) in
     ((λ e. all-parts (λ y. y ≡ z → ⊥) front (x ∷ rest) (d .0) .1 .0 (sym e), r .0), r .1)
+
+pub distinct-append : (a b : List ℕ) → Distinct a → Distinct b → All (λ x. All (λ y. y ≡ x → ⊥) b) a → Distinct (a ++ b)
+distinct-append [] b d e n = e
+distinct-append (x ∷ a) b d e n = (all-append (λ y. y ≡ x → ⊥) a b (d .0) (n .0), distinct-append a b (d .1) e (n .1))
+
+-- different owners own different things
+pub distinct-gather : (owner : ℕ → ℕ) (f : ℕ → List ℕ) (l : List ℕ) → Distinct l → All (λ x. Distinct (f x)) l → All (λ x. All (λ y. owner y ≡ x) (f x)) l
+    → Distinct (gather f l)
+unfolding gather
+distinct-gather owner f [] d each own = tt
+distinct-gather owner f (x ∷ l) d each own =
+    distinct-append (f x) (gather f l) (each .0) (distinct-gather owner f l (d .1) (each .1) (own .1))
+    (all-each (λ y. owner y ≡ x) (λ y. All (λ z. z ≡ y → ⊥) (gather f l))
+    (λ y q. all-each (λ z. owner z ≡ x → ⊥) (λ z. z ≡ y → ⊥) (λ z n e. n (ap owner e ∙ q)) (gather f l) others) (f x) (own .0))
+  where
+    others : All (λ z. owner z ≡ x → ⊥) (gather f l)
+    others =
+        all-gather (λ z. owner z ≡ x → ⊥) f l
+        (all-each (λ y. (y ≡ x → ⊥) × All (λ z. owner z ≡ y) (f y)) (λ y. All (λ z. owner z ≡ x → ⊥) (f y))
+        (λ y h. all-each (λ z. owner z ≡ y) (λ z. owner z ≡ x → ⊥) (λ z q e. h .0 (sym q ∙ e)) (f y) (h .1)) l
+        (all-join (λ y. y ≡ x → ⊥) (λ y. All (λ z. owner z ≡ y) (f y)) l (d .0) (own .1)))
 
 abbrev other : ℕ → ℕ → Bool
 other v y = pick (eqb y v) false true

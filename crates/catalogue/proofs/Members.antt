@@ -59,6 +59,11 @@ module _ {A : Type 0} where
   all-gather P f [] h = tt
   all-gather P f (x ∷ l) h = all-append P (f x) (gather f l) (h .0) (all-gather P f l (h .1))
 
+  pub gather-all : (P : A → Type 0) (f : ℕ → List A) (l : List ℕ) → All P (gather f l) → All (λ x. All P (f x)) l
+  unfolding gather
+  gather-all P f [] h = tt
+  gather-all P f (x ∷ l) h = let r = all-parts P (f x) (gather f l) h in (r .0, gather-all P f l (r .1))
+
   -- the tests of the definitions
   pub every-all : (test : A → Bool) (l : List A) → every test l ≡ true → All (λ x. test x ≡ true) l
   unfolding every

@@ -1,6 +1,7 @@
 -- What holds of every case of a definition holds of the one that its tests and reads choose. Assumes nothing.
 use Prim.Native.Nat.{ℕ}
 use mathlib.Core.Bool.{Bool, true, false}
+use mathlib.Core.Option.{Option, none, some}
 use mathlib.Core.Path.{_≡_, refl}
 use native.Mathlib.Omega.{arith}
 use Rattle.catalogue.specs.Tests.{pick}
@@ -20,6 +21,11 @@ clash e = absurd (omega arith)
 pub both-true : (a b : Bool) → pick a b false ≡ true → (a ≡ true) × (b ≡ true)
 both-true true b e = (refl, e)
 both-true false b e = clash (cc)
+
+-- something is picked over nothing only where the test holds
+pub pick-some : {A : Type 0} (t : Bool) (o : Option A) (a : A) → pick t o none ≡ some a → (t ≡ true) × (o ≡ some a)
+pick-some true o a e = (refl, e)
+pick-some false o a e = clash (cc)
 
 module _ {A : Type 0} (P : A → Type 0) where
   pub pick-both : (t : Bool) (a b : A) → (t ≡ true → P a) → (t ≡ false → P b) → P (pick t a b)

@@ -24,7 +24,7 @@ eqZ-eq (negsuc a) (negsuc b) e = ap negsuc (eqb-true a b e)
 eqZ-eq (pos a) (negsuc b) e = absurd (false≢true e)
 eqZ-eq (negsuc a) (pos b) e = absurd (false≢true e)
 
-not-true-false : (t : Bool) → (t ≡ true → ⊥) → t ≡ false
+pub not-true-false : (t : Bool) → (t ≡ true → ⊥) → t ≡ false
 not-true-false true h = absurd (h refl)
 not-true-false false h = refl
 

@@ -2,6 +2,7 @@
 use Prim.Native.Nat.{ℕ, zero, suc, _+_, _-_, _≤_, _<_}
 use mathlib.Core.Bool.{Bool, true, false}
 use mathlib.Core.List.{List, [], _∷_, map}
+use mathlib.Core.Logic.{inl, inr}
 use mathlib.Core.Path.{_≡_, refl, sym, ap, ap₂, _∙_, subst}
 use native.Mathlib.Omega.{arith}
 use lib.IntN.{ℤ}
@@ -10,6 +11,7 @@ use lib.Dec.{eqb}
 use lib.Signed.{_<ℤ_}
 use borrow.Author.Tests.{eqb-true, eqb-false, eq-eqb, ne-eqb}
 use Rattle.catalogue.specs.Live.{walk}
+use Rattle.catalogue.proofs.Cases.{same?}
 use Rattle.catalogue.proofs.Members.{All}
 use Rattle.catalogue.proofs.Distinct.{pigeons}
 use Rattle.catalogue.proofs.Keys.{<ℤ-trans, Rising, rising-distinct}
@@ -130,9 +132,26 @@ module _ (next : ℕ → ℕ) (end : ℕ) where
         pub walk-under : size < fuel → All (λ k. k <ℤ key end) (map key (walk next end fuel x))
         walk-under b = under x (walk next end fuel x) (walked (λ y. y ≡ end) refl fuel x (λ y e. absurd (omega (arith, walk-short)))) c
 
-  pub walk-within : (bound fuel x : ℕ) → ((y : ℕ) → next y < bound) → x < bound → All (λ y. (y < bound) × (y ≡ end → ⊥)) (walk next end fuel x)
-  walk-within bound fuel x low b = through x (walk next end fuel x) (walked (λ y. Unit {0}) tt fuel x (λ y e. tt)) b
+  -- what holds of the first node, and of the next one wherever it holds, holds of every node
+  pub walk-all : (P : ℕ → Type 0) → ((y : ℕ) → P y → (y ≡ end → ⊥) → P (next y)) → (fuel x : ℕ) → P x → All (λ y. P y × (y ≡ end → ⊥)) (walk next end fuel x)
+  walk-all P on fuel x p = through x (walk next end fuel x) (walked (λ y. Unit {0}) tt fuel x (λ y e. tt)) p
     where
-      through : (x : ℕ) (l : List ℕ) → Run (λ y. Unit {0}) x l → x < bound → All (λ y. (y < bound) × (y ≡ end → ⊥)) l
-      through x [] r b = tt
-      through x (y ∷ l) r b = ((rw (← r .0) b, rw (← r .0) (r .1)), through (next x) l (r .2) (low x))
+      through : (x : ℕ) (l : List ℕ) → Run (λ y. Unit {0}) x l → P x → All (λ y. P y × (y ≡ end → ⊥)) l
+      through x [] r p = tt
+      through x (y ∷ l) r p = ((rw (← r .0) p, rw (← r .0) (r .1)), through (next x) l (r .2) (on x p (r .1)))
+
+  pub walk-within : (bound fuel x : ℕ) → ((y : ℕ) → next y < bound) → x < bound → All (λ y. (y < bound) × (y ≡ end → ⊥)) (walk next end fuel x)
+  walk-within bound fuel x low b = walk-all (λ y. y < bound) (λ y h n. low y) fuel x b
+
+-- another next that is the same wherever the walk comes walks the same
+pub walk-same : (next other : ℕ → ℕ) (end : ℕ) (P : ℕ → Type 0) → ((x : ℕ) → P x → (x ≡ end → ⊥) → P (next x) × (next x ≡ other x))
+    → (fuel x : ℕ) → P x → walk next end fuel x ≡ walk other end fuel x
+walk-same next other end P same zero x p = walk-spent next end zero x refl ∙ sym (walk-spent other end zero x refl)
+walk-same next other end P same (suc n) x p =
+    elim (same? x end) [
+      | inl e ↦ walk-end next end (suc n) x e ∙ sym (walk-end other end (suc n) x e)
+      | inr d ↦
+          let s = same x p d in
+          walk-step next end n x d
+          ∙ (ap (λ (l : List ℕ). x ∷ l) (walk-same next other end P same n (next x) (s .0) ∙ ap (walk other end n) (s .1)) ∙ sym (walk-step other end n x d))
+    ]

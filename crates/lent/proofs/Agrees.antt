@@ -1,59 +1,12 @@
--- Two catalogues that agree inside the pools have one memory, and what is read there is the same; a catalogue agrees with what its memory holds. Assumes nothing.
+-- What is read of two catalogues that agree inside the pools is the same. Assumes nothing.
 use Prim.Native.Nat.{ℕ, _<_}
 use mathlib.Core.Bool.{Bool, true, false}
-use mathlib.Core.Path.{_≡_, refl, _∙_}
+use mathlib.Core.Path.{_≡_, refl}
 use lib.Dec.{ltb}
 use borrow.Author.Tests.{ltb-true}
 use Rattle.catalogue.specs.Numbers.{vertex-pool, edge-pool}
 use Rattle.catalogue.specs.Catalogue.{Catalogue, vertex-key, vertex-key-in, vertex-link, vertex-link-in, first-link, first-link-in, edge-key, edge-key-in, edge-link, edge-link-in, edge-target, edge-target-in}
-use Rattle.catalogue.specs.Lent.{view, lay}
-use Rattle.memory.proofs.Laid.{length-keys, length-words, laid-vkey, laid-ekey, laid-vlink, laid-first, laid-target, laid-elink, laid-keys, laid-words}
-
--- equal counts, and equal fields at every number of their pools
-pub record Agree (C D : Catalogue) : Type 0 where
-  pub vertices : C .vertices-out ≡ D .vertices-out
-  pub edges : C .edges-out ≡ D .edges-out
-  pub vkeys : (n : ℕ) → n < vertex-pool → C .vkey n ≡ D .vkey n
-  pub vlinks : (n : ℕ) → n < vertex-pool → C .vlink n ≡ D .vlink n
-  pub firsts : (n : ℕ) → n < vertex-pool → C .first n ≡ D .first n
-  pub ekeys : (n : ℕ) → n < edge-pool → C .ekey n ≡ D .ekey n
-  pub targets : (n : ℕ) → n < edge-pool → C .target n ≡ D .target n
-  pub elinks : (n : ℕ) → n < edge-pool → C .elink n ≡ D .elink n
-
-pub agree-laid : (C : Catalogue) → Agree (view (lay C)) C
-unfolding lay
-agree-laid C = record {
-  vertices = refl;
-  edges = refl;
-  vkeys = laid-vkey C;
-  vlinks = laid-vlink C;
-  firsts = laid-first C;
-  ekeys = laid-ekey C;
-  targets = laid-target C;
-  elinks = laid-elink C;
-}
-
-pub lay-agree : {C D : Catalogue} → Agree C D → lay C ≡ lay D
-lay-agree {C} {D} a = λ i. record { keys = keys i; words = words i }
-  where
-    laid : Agree (view (lay C)) C
-    laid = agree-laid C
-
-    keys : lay C .keys ≡ lay D .keys
-    keys =
-        laid-keys D (lay C .keys) (length-keys C)
-        (λ n h. laid .vkeys n h ∙ a .vkeys n h)
-        (λ n h. laid .ekeys n h ∙ a .ekeys n h)
-
-    words : lay C .words ≡ lay D .words
-    words =
-        laid-words D (lay C .words) (length-words C)
-        (laid .vertices ∙ a .vertices)
-        (laid .edges ∙ a .edges)
-        (λ n h. laid .vlinks n h ∙ a .vlinks n h)
-        (λ n h. laid .firsts n h ∙ a .firsts n h)
-        (λ n h. laid .targets n h ∙ a .targets n h)
-        (λ n h. laid .elinks n h ∙ a .elinks n h)
+use Rattle.memory.proofs.Agrees.{Agree}
 
 module _ {C D : Catalogue} (a : Agree C D) (n : ℕ) where
   pub vertex-key-same : n < vertex-pool → vertex-key C n ≡ vertex-key D n

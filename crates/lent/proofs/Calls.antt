@@ -24,10 +24,10 @@ use Rattle.catalogue.specs.declared.steps.Decision.{Decision}
 use Rattle.catalogue.specs.declared.steps.Decision.the-variants as decision
 use Rattle.catalogue.proofs.Leads.{vertex-next-in}
 use Rattle.memory.proofs.Laid.{length-keys, length-words}
-use Rattle.lent.proofs.Agrees.{Agree, agree-laid, lay-agree, vertex-link-same}
+use Rattle.memory.proofs.Agrees.{Agree, agree-laid, lay-agree, commit-agree}
+use Rattle.lent.proofs.Agrees.{vertex-link-same}
 use Rattle.lent.proofs.Entries.{all-read, all-set}
 use Rattle.lent.proofs.Ranges.{In-range, Table-in-range, Leads-near, first-near}
-use Rattle.lent.proofs.Commits.{commit-agree}
 use Rattle.lent.proofs.Twins.{Twin}
 use Rattle.lent.proofs.Steps.Deciding.{decide-twin, bare-in-range, after-in-range}
 

@@ -5,7 +5,6 @@ pub mod Reading
 pub mod Entries
 pub mod Ranges
 pub mod Steps
-pub mod Commits
 pub mod Calls
 pub mod Lists
 pub mod Lives

@@ -9,7 +9,8 @@ use Rattle.catalogue.specs.Live.{edges-of, is-added, live-edges-of}
 use Rattle.catalogue.specs.Soundness.{listing}
 use Rattle.catalogue.specs.Listing.{Reply-line, added-edges, vertex-lines, edge-lines, result-text, list-into}
 use Rattle.catalogue.specs.Lent.{lay, output-fits, lent-listing}
-use Rattle.lent.proofs.Agrees.{Agree, agree-laid, vertex-key-same, edge-key-same}
+use Rattle.memory.proofs.Agrees.{Agree, agree-laid}
+use Rattle.lent.proofs.Agrees.{vertex-key-same, edge-key-same}
 use Rattle.lent.proofs.Lives.{is-added-twin, edges-kept, live-vertices-same, live-edges-mapped, live-mapped, live-gathered}
 use Rattle.lent.proofs.Sounds.{sound-same}
 use Rattle.lent.proofs.Calls.{sized-lay}

@@ -6,37 +6,27 @@ use mathlib.Core.Path.{_≡_, ap, _∙_}
 use native.Mathlib.Omega.{arith}
 use Rattle.catalogue.specs.Tests.{keep}
 use Rattle.catalogue.specs.Numbers.{head, tail, edge-tail, vertex-pool, edge-pool}
-use Rattle.catalogue.specs.Catalogue.{Catalogue, vertex-link, first-link, edge-link}
+use Rattle.catalogue.specs.Catalogue.{Catalogue}
 use Rattle.catalogue.specs.Live.{walk, next-vertex, first-edge, next-edge, vertices, edges-of, unmarked, is-added, is-live, live-vertices, live-edges-of, gather}
-use Rattle.catalogue.proofs.Picks.{vertex-both, edge-both}
-use Rattle.catalogue.proofs.Leads.{vertex-next-in, edge-next-in, first-next-in}
-use Rattle.catalogue.proofs.Members.{All, all-each, kept-all}
+use Rattle.catalogue.proofs.Leads.{vertex-goes, edge-goes, first-goes}
+use Rattle.catalogue.proofs.Members.{All, all-each, kept-all, map-same}
 use Rattle.catalogue.proofs.Gathers.{gather-same}
-use Rattle.catalogue.proofs.Walks.{walk-within}
+use Rattle.catalogue.proofs.Walks.{walk-within, walk-same}
 use Rattle.lent.proofs.Twins.{twin, Same, pick-twin}
-use Rattle.lent.proofs.Agrees.{Agree}
+use Rattle.memory.proofs.Agrees.{Agree}
 use Rattle.lent.proofs.Reading.{vertex-read, mark-read, first-read, edge-read, target-read}
 use Rattle.lent.proofs.Ranges.{Near}
-use Rattle.lent.proofs.Lists.{keep-same, map-same, walk-same}
+use Rattle.lent.proofs.Lists.{keep-same}
 
 abbrev pub In-pool : ℕ → Type 0
 In-pool e = e < edge-pool
 
 -- where the nodes of one catalogue lead
 module _ (C : Catalogue) where
-  next-near : (x : ℕ) → Near (next-vertex C x)
-  next-near x = vertex-both Near (vertex-link C x) tail _ (omega arith) (λ next tag e. vertex-next-in (C .vlink) x next tag e)
-
-  first-in-pool : (x : ℕ) → In-pool (first-edge C x)
-  first-in-pool x = edge-both In-pool (first-link C x) edge-tail _ (omega arith) (λ next tag e. first-next-in (C .first) x next tag e)
-
-  next-in-pool : (e : ℕ) → In-pool (next-edge C e)
-  next-in-pool e = edge-both In-pool (edge-link C e) edge-tail _ (omega arith) (λ next tag q. edge-next-in (C .elink) e next tag q)
-
   pub vertices-near : All Near (vertices C)
   vertices-near =
       all-each _ Near (λ x h. h .0) (vertices C)
-      (walk-within (next-vertex C) tail vertex-pool vertex-pool (next-vertex C head) next-near (next-near head))
+      (walk-within (next-vertex C) tail vertex-pool vertex-pool (next-vertex C head) (vertex-goes (C .vlink)) (vertex-goes (C .vlink) head))
 
   pub live-near : All Near (live-vertices C)
   live-near = kept-all Near (unmarked C) (vertices C) vertices-near
@@ -44,7 +34,7 @@ module _ (C : Catalogue) where
   edges-in-pool : (x : ℕ) → All In-pool (edges-of C x)
   edges-in-pool x =
       all-each _ In-pool (λ e h. h .0) (edges-of C x)
-      (walk-within (next-edge C) edge-tail edge-pool edge-pool (first-edge C x) next-in-pool (first-in-pool x))
+      (walk-within (next-edge C) edge-tail edge-pool edge-pool (first-edge C x) (edge-goes (C .elink)) (first-goes (C .first) x))
 
   live-in-pool : (x : ℕ) → All In-pool (live-edges-of C x)
   live-in-pool x = kept-all In-pool (is-live C) (edges-of C x) (edges-in-pool x)
@@ -58,7 +48,7 @@ module _ {C D : Catalogue} (a : Agree C D) where
 
   pub vertices-same : vertices C ≡ vertices D
   vertices-same =
-      walk-same (next-vertex C) (next-vertex D) tail vertex-pool (next-near C) (λ x h. next-twin x h .same) vertex-pool (next-vertex C head) (next-near C head)
+      walk-same (next-vertex C) (next-vertex D) tail Near (λ x h n. (vertex-goes (C .vlink) x, next-twin x h .same)) vertex-pool (next-vertex C head) (vertex-goes (C .vlink) head)
       ∙ ap (walk (next-vertex D) tail vertex-pool) (next-twin head (omega arith) .same)
 
   pub live-vertices-same : live-vertices C ≡ live-vertices D
@@ -78,7 +68,7 @@ module _ {C D : Catalogue} (a : Agree C D) where
   module _ (x : ℕ) (h : Near x) where
     pub edges-of-same : edges-of C x ≡ edges-of D x
     edges-of-same =
-        walk-same (next-edge C) (next-edge D) edge-tail edge-pool (next-in-pool C) (λ e b. next-edge-twin e .same) edge-pool (first-edge C x) (first-in-pool C x)
+        walk-same (next-edge C) (next-edge D) edge-tail In-pool (λ e b n. (edge-goes (C .elink) e, next-edge-twin e .same)) edge-pool (first-edge C x) (first-goes (C .first) x)
         ∙ ap (walk (next-edge D) edge-tail edge-pool) (first-twin .same)
       where
         first-twin : Same (first-edge C x) (first-edge D x)

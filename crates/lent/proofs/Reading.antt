@@ -11,7 +11,8 @@ use Rattle.catalogue.proofs.Picks.{pick-both}
 use Rattle.catalogue.proofs.Leads.{vertex-next-in, edge-next-in, first-next-in}
 use Rattle.catalogue.proofs.Pools.{edge-in-pool}
 use Rattle.lent.proofs.Twins.{Twin, pick-twin, vertex-twin, edge-twin, target-twin}
-use Rattle.lent.proofs.Agrees.{Agree, vertex-link-same, first-link-same, edge-link-same, edge-target-same}
+use Rattle.memory.proofs.Agrees.{Agree}
+use Rattle.lent.proofs.Agrees.{vertex-link-same, first-link-same, edge-link-same, edge-target-same}
 
 -- the target of an edge is a vertex
 abbrev To-vertex : Target → Type 0

@@ -18,7 +18,7 @@ use Rattle.catalogue.specs.declared.workers.Place.the-variants.{Idle}
 use Rattle.catalogue.specs.declared.workers.Table.{Table}
 use Rattle.lent.specs.Hosting.{Lent-moment, Lent-chosen, lent-start, lent-called, lent-swept, lent-choose, lent-telling, lent-after}
 use Rattle.lent.specs.SameRuns.{Holds, LentRuns}
-use Rattle.lent.proofs.Agrees.{agree-laid}
+use Rattle.memory.proofs.Agrees.{agree-laid}
 use Rattle.lent.proofs.Entries.{all-replicate}
 use Rattle.lent.proofs.Ranges.{In-range, Table-in-range}
 use Rattle.lent.proofs.Steps.Deciding.{bare-in-range}

@@ -11,7 +11,8 @@ use Rattle.catalogue.specs.Live.{vertices, edges-of, live-vertices, live-edges-
 use Rattle.catalogue.specs.Soundness.{Asks, tag-fits, vertex-sound, target-sound, edge-sound, edges-sound, sound}
 use Rattle.catalogue.proofs.Members.{all-each, all-any}
 use Rattle.lent.proofs.Twins.{twin, Same, pick-twin}
-use Rattle.lent.proofs.Agrees.{Agree, vertex-key-same, edge-key-same}
+use Rattle.memory.proofs.Agrees.{Agree}
+use Rattle.lent.proofs.Agrees.{vertex-key-same, edge-key-same}
 use Rattle.lent.proofs.Reading.{vertex-read, mark-read, first-read, edge-read, target-read}
 use Rattle.lent.proofs.Ranges.{Near}
 use Rattle.lent.proofs.Lists.{every-same}

@@ -9,7 +9,8 @@ use Rattle.catalogue.specs.Soundness.{sweep}
 use Rattle.catalogue.specs.Sweep.{position, renumbered, swept-edge, swept-edges, swept, sweep-into}
 use Rattle.catalogue.specs.Lent.{Memory, view, lay, sized, after-sweep, lent-sweep}
 use Rattle.catalogue.specs.declared.workers.Table.{Table}
-use Rattle.lent.proofs.Agrees.{Agree, agree-laid, vertex-key-same, edge-key-same, edge-target-same}
+use Rattle.memory.proofs.Agrees.{Agree, agree-laid}
+use Rattle.lent.proofs.Agrees.{vertex-key-same, edge-key-same, edge-target-same}
 use Rattle.lent.proofs.Lives.{In-pool, live-vertices-same, live-edges-mapped, live-mapped, live-gathered}
 use Rattle.lent.proofs.Sounds.{sound-same}
 use Rattle.lent.proofs.Calls.{sized-lay}

@@ -2,6 +2,7 @@
 pub mod Sizes
 pub mod Tables
 pub mod Laid
+pub mod Agrees
 pub mod Stores
 pub mod Commits
 pub mod Fills

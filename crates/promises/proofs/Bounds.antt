@@ -7,7 +7,6 @@ pub mod Looking
 pub mod Trying
 pub mod Forward
 pub mod OwnStep
-pub mod TakingUp
 pub mod Others
 pub mod Rising
 pub mod Calls

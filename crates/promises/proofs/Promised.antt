@@ -2,9 +2,9 @@
 use Rattle.promises.specs.Promises.{Promises}
 use Rattle.promises.proofs.Runs.Course.{no-loop, never-torn, sound-at-rest}
 use Rattle.promises.proofs.Runs.Accepted.{scripts-played}
-use Rattle.promises.proofs.Rows.Row.{one-row}
+use Rattle.promises.proofs.Rows.Row.{one-row, live-kept}
 use Rattle.promises.proofs.Rows.Begins.{begins-empty}
-use Rattle.promises.proofs.Rows.Outcome.{one-outcome}
+use Rattle.promises.proofs.Rows.Outcome.{one-at-most, one-outcome}
 use Rattle.promises.proofs.Outside.Room.{no-room}
 use Rattle.promises.proofs.Outside.Rivals.{on-trial}
 use Rattle.promises.proofs.Outside.Loops.{cycle}
@@ -21,6 +21,8 @@ promises = record {
   scripts-played = scripts-played;
   one-row = one-row;
   begins-empty = begins-empty;
+  live-kept = live-kept;
+  one-at-most = one-at-most;
   one-outcome = one-outcome;
   no-room = no-room;
   on-trial = on-trial;

@@ -1,13 +1,13 @@
 -- The history of a run: which call each choice answers, when that call was taken up, and the live graph between two choices.
 use Prim.Native.Nat.{ℕ, zero, suc}
 use mathlib.Core.Bool.{Bool, true, false}
-use mathlib.Core.List.{List}
+use mathlib.Core.List.{List, [], _∷_, _++_}
 use mathlib.Core.Option.{Option, none, some}
 use lib.IntN.{pos}
 use lib.Dec.{eqb}
 use Rattle.catalogue.specs.Tests.{pick}
 use Rattle.catalogue.specs.Calls.{take-up, step}
-use Rattle.catalogue.specs.Runs.{Choice, takes, steps, sweeps, Moment}
+use Rattle.catalogue.specs.Runs.{Choice, takes, steps, sweeps, Moment, choose}
 use Rattle.catalogue.specs.declared.answers.Answer.{Answer}
 use Rattle.catalogue.specs.declared.answers.Answer.the-variants.{Going, Reply, Refused}
 use Rattle.row.specs.Rows.Row.{Call, History}
@@ -60,6 +60,21 @@ answered workers choices (suc n) = answered-by (λ w. begun workers choices w n)
 
 abbrev pub history : ℕ → List Choice → History Graph Ask ℕ
 history workers choices = record { live = λ n. live (moment workers choices n .catalogue); answered = answered workers choices }
+
+-- Which workers are replied to by a list of choices, and with which numbers, in order.
+abbrev pub reply-to : ℕ → Answer → List (ℕ × ℕ)
+reply-to w (Going met) = []
+reply-to w (Reply n) = (w, n) ∷ []
+reply-to w (Refused r) = []
+
+abbrev pub reply-by : Moment → Choice → List (ℕ × ℕ)
+reply-by m (takes v code k l) = []
+reply-by m (steps v) = reply-to v (step (m .catalogue) (m .table) v .answer)
+reply-by m sweeps = []
+
+unfoldable pub replies-of : Moment → List Choice → List (ℕ × ℕ)
+replies-of m [] = []
+replies-of m (c ∷ cs) = reply-by m c ++ replies-of (choose m c .moment) cs
 
 -- Three replies stand outside the row: 6, 7 and 9.
 abbrev pub in-row : Call Ask ℕ → Bool

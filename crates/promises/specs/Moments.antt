@@ -1,7 +1,7 @@
 -- The moments of a run: what the host may choose, and what the catalogue and the workers are after it.
 use Prim.Native.Nat.{ℕ, _≤_}
 use mathlib.Core.Bool.{false}
-use mathlib.Core.List.{List, [], _∷_}
+use mathlib.Core.List.{List}
 use mathlib.Core.Path.{_≡_}
 use lib.IntN.{ℤ}
 use lib.ListN.{getD, take}
@@ -10,11 +10,8 @@ use Rattle.catalogue.specs.Numbers.{least, greatest}
 use Rattle.catalogue.specs.Workers.{worker-at}
 use Rattle.catalogue.specs.declared.workers.Place.{Place}
 use Rattle.catalogue.specs.Runs.{Choice, takes, steps, sweeps, Moment, start, after}
-
 -- every member of a list
-pub data All {A : Type 0} (P : A → Type 0) : List A → Type 0 where
-  none : All P []
-  each : {x : A} {xs : List A} → P x → All P xs → All P (x ∷ xs)
+pub use Rattle.row.specs.Rows.Row.{All, nil as none, also as each}
 
 -- A key is a number of 32 bits.
 pub record Key (k : ℤ) : Type 0 where

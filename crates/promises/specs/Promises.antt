@@ -1,13 +1,15 @@
 -- Demand 3: what holds of every run. Stated over the definitions that the contracts of the code cite; proved in proofs/.
-use Prim.Native.Nat.{ℕ, _≤_, _<_}
+use Prim.Native.Nat.{ℕ, suc, _≤_, _<_}
 use mathlib.Core.Bool.{true, false}
-use mathlib.Core.List.{List}
+use mathlib.Core.List.{List, map}
+use mathlib.Core.Option.{some}
 use mathlib.Core.Path.{_≡_}
 use lib.IntN.{ℤ}
 use lib.ListN.{length}
+use Rattle.catalogue.specs.Catalogue.{Catalogue}
 use Rattle.catalogue.specs.Workers.{request-of}
 use Rattle.catalogue.specs.Calls.{take-up, step}
-use Rattle.catalogue.specs.Runs.{Choice, takes, steps, sweeps, Moment}
+use Rattle.catalogue.specs.Runs.{Choice, takes, steps, sweeps, Moment, start}
 use Rattle.catalogue.specs.Run.{run}
 use Rattle.catalogue.specs.Script.{Script, good, read-script}
 use Rattle.catalogue.specs.Soundness.{Asks, sweep, sound}
@@ -15,12 +17,12 @@ use Rattle.catalogue.specs.Sweep.{any-busy, sweep-into}
 use Rattle.catalogue.specs.declared.answers.Refusal.the-variants.{Torn}
 use Rattle.catalogue.specs.declared.answers.Answer.the-variants as answer
 use Rattle.catalogue.specs.declared.answers.Made.the-variants as made
-use Rattle.row.specs.Rows.Row.{Entry, Explains}
+use Rattle.row.specs.Rows.Row.{Call, Entry, Explains}
 use Rattle.promises.specs.Moments.{Keyed, Given, at, moment, place-of}
 use Rattle.promises.specs.Graphs.{Graph, empty, live, Walk}
 use Rattle.promises.specs.Alone.{Ask, Alone}
 use Rattle.promises.specs.Bounds.{ConVBound, ConEBound, TrialBound, TrialAlone}
-use Rattle.promises.specs.Histories.{history, in-row}
+use Rattle.promises.specs.Histories.{history, in-row, replies-of}
 use Rattle.promises.specs.Outside.{Replies, left, Lacks, Rival, Lives, Crosses, Closes, Undisturbed}
 
 -- No series is derived from itself, over however many derivations between live series.
@@ -45,11 +47,12 @@ SoundAtRest =
     (workers : ℕ) (choices : List Choice) → Given workers choices → (asks : Asks)
     → (asks ≡ sweep → any-busy (at workers choices .table) workers ≡ false) → sound asks (at workers choices .catalogue) ≡ true
 
--- Running a script that is accepted is such a run, so that all this holds of what the drill prints.
+-- Running a script that is accepted is such a run, with the same replies in the same order, so that all this holds of what the drill prints.
 pub record Played (s : Script) : Type 0 where
   pub choices : List Choice
   pub given : Given (length (s .counts)) choices
   pub same : run s .catalogue ≡ at (length (s .counts)) choices .catalogue
+  pub replies : map (λ r. (r .worker, r .reply)) (run s .replies) ≡ replies-of (start (length (s .counts))) choices
 
 abbrev pub ScriptsPlayed : Type 0
 ScriptsPlayed = (text : List ℕ) (s : Script) → read-script text ≡ good s → Played s
@@ -65,7 +68,17 @@ OneRow =
 abbrev pub BeginsEmpty : Type 0
 BeginsEmpty = (workers : ℕ) (choices : List Choice) → history workers choices .live 0 ≡ empty
 
--- A call that is alone has one outcome, whatever is asked, on every live graph of a run.
+-- Whatever answers no call of the row leaves the live graph: taking up, going on, a refusal, a sweep, and the replies 6, 7 and 9.
+abbrev pub LiveKept : Type 0
+LiveKept =
+    (workers : ℕ) (choices : List Choice) → Given workers choices → (n : ℕ) → let h = history workers choices in
+    ((c : Call Ask ℕ) → h .answered (suc n) ≡ some c → in-row c ≡ false) → h .live (suc n) ≡ h .live n
+
+-- A call that is alone has at most one outcome on any graph, so that what a row tells of each call is determined by the calls before it.
+abbrev pub OneAtMost : Type 0
+OneAtMost = (g : Graph) (q : Ask) (m n : ℕ) (h i : Graph) → Alone g q m h → Alone g q n i → (m ≡ n) × (h ≡ i)
+
+-- And it has one, whatever is asked, on the live graph of any catalogue.
 pub record Outcome (g : Graph) (q : Ask) : Type 0 where
   pub reply : ℕ
   pub graph : Graph
@@ -73,7 +86,7 @@ pub record Outcome (g : Graph) (q : Ask) : Type 0 where
   pub only : (n : ℕ) (h : Graph) → Alone g q n h → (n ≡ reply) × (h ≡ graph)
 
 abbrev pub OneOutcome : Type 0
-OneOutcome = (workers : ℕ) (choices : List Choice) → Given workers choices → (q : Ask) → Outcome (live (at workers choices .catalogue)) q
+OneOutcome = (C : Catalogue) (q : Ask) → Outcome (live C) q
 
 -- Reply 9 is given exactly where a node is needed and its pool is used up, and changes nothing.
 abbrev pub NoRoom : Type 0
@@ -111,6 +124,8 @@ pub record Promises : Type 0 where
   pub scripts-played : ScriptsPlayed
   pub one-row : OneRow
   pub begins-empty : BeginsEmpty
+  pub live-kept : LiveKept
+  pub one-at-most : OneAtMost
   pub one-outcome : OneOutcome
   pub no-room : NoRoom
   pub on-trial : OnTrial

@@ -1,6 +1,7 @@
 -- Laws of function update, of tests on numbers and of the order of ℤ. Assumes nothing.
 use Prim.Native.Nat.{ℕ, _<_}
-use mathlib.Core.Path.{_≡_, refl, ap}
+use mathlib.Core.Bool.{Bool, true}
+use mathlib.Core.Path.{_≡_, refl, ap, _∙_}
 use mathlib.Core.Logic.{inl, inr}
 use lib.IntN.{ℤ, pos, negsuc}
 use lib.Dec.{lt→ltb}
@@ -17,6 +18,9 @@ pub use Rattle.catalogue.proofs.Keys.{<ℤ-trans, rises as ltZ-true}
 pub upd-same : {A : Type 0} (f : ℕ → A) (i : ℕ) (v : A) → upd f i v i ≡ v
 unfolding upd
 upd-same f i v = rw (eq-eqb i i refl)
+
+pub upd-true : (f : ℕ → Bool) (i j : ℕ) → f j ≡ true → upd f i true j ≡ true
+upd-true f i j e = elim (same? j i) [ inl q ↦ upd-at f i true j q | inr n ↦ upd-other f i true j n ∙ e ]
 
 -- the laws for `search`: an index that is below or above is another one
 pub lt-ne : {j i : ℕ} → j < i → j ≡ i → ⊥

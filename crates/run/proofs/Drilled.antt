@@ -3,18 +3,19 @@ use Prim.Native.Nat.{ℕ, _+_, _≤_}
 use mathlib.Core.List.{List, [], _∷_, _++_}
 use mathlib.Core.Path.{_≡_, refl, sym, ap, _∙_}
 use native.Mathlib.Omega.{arith}
-use borrow.Author.Tests.{eq-eqb, le-leb}
+use borrow.Author.Tests.{le-leb}
 use borrow.Author.Needs.{needs}
 use mathlib.Core.Bool.{true}
 use mir.Syntax.{w32}
 use mir.Val.{Fits}
 use lib.IntN.{ℤ, pos}
 use lib.ListN.{length, take, drop, length-append}
+use lib.Seq.{take-at}
 use Rattle.catalogue.specs.Text.{digits, number}
 use Rattle.catalogue.specs.Drill.{drill, printed}
 use Rattle.catalogue.specs.Script.{Script, Read, bad, good, read-script}
 use Rattle.catalogue.specs.Run.{run-text}
-use Rattle.catalogue.specs.Lent.{Memory, Sized, memory-of, sized, output-size, output-fits, Lent-run, after-run, lent-run}
+use Rattle.catalogue.specs.Lent.{Memory, Sized, memory-of, output-size, output-fits, Lent-run, after-run, lent-run}
 use Rattle.catalogue.specs.declared.answers.Refusal.{Refusal}
 use Rattle.catalogue.specs.declared.script.Ran.{Ran}
 use Rattle.catalogue.specs.declared.script.Ran.the-variants as ran
@@ -23,17 +24,14 @@ use Rattle.text.specs.Puts.{put-at}
 use Rattle.text.proofs.Runs.{put-then, length-put-at}
 use Rattle.text.proofs.Naturals.{natural-short}
 use Rattle.run.specs.Promised.{Runs-script}
+use Rattle.run.proofs.TurnLaws.{is-sized}
 
 -- the bytes of the word, its number and the spaces behind both
 abbrev pub word : List ℕ
 word = 114 ∷ 101 ∷ 102 ∷ 117 ∷ 115 ∷ 101 ∷ 100 ∷ 32 ∷ 50 ∷ 55 ∷ 32 ∷ []
 
-take-first : (b rest : List ℕ) → take (length b) (b ++ rest) ≡ b
-take-first [] rest = refl
-take-first (x ∷ b) rest = ap (λ l. x ∷ l) (take-first b rest)
-
 pub taken : (l b : List ℕ) → take (length b) (put-at l 0 b) ≡ b
-taken l b = take-first b (drop (0 + length b) l)
+taken l b = take-at b (drop (0 + length b) l) (length b) refl
 
 module _ (l m k : List ℕ) (line at r : ℕ) (put : m ≡ put-at l 0 word) (reached : at ≡ 0 + length word)
     (then : k ≡ put-at m at (number (pos line) ++ (10 ∷ []))) (ends : r ≡ at + length (number (pos line) ++ (10 ∷ [])))
@@ -61,10 +59,6 @@ pub ruleset refusal-cases = (refusal-told, refusal-within, needs)
 
 -- ---- what a run answered, where the memory and the output are of the stated sizes
 
-full-sized : (keys : List ℤ) (words : List ℕ) → Sized keys words → sized (memory-of keys words) ≡ true
-unfolding sized
-full-sized keys words z = rw (eq-eqb (length keys) 2304 (z .keyed), eq-eqb (length words) 4610 (z .worded))
-
 full-output : (output : List ℕ) → output-size ≤ length output → output-fits output ≡ true
 unfolding output-fits
 full-output output h = le-leb 65536 (length output) h
@@ -75,7 +69,7 @@ ran-as text m output = after-run m output (read-script text)
 ran-is : (text : List ℕ) (keys : List ℤ) (words output : List ℕ) → Sized keys words → output-size ≤ length output
     → lent-run text (memory-of keys words) output ≡ ran-as text (memory-of keys words) output
 unfolding lent-run
-ran-is text keys words output z h = rw (full-sized keys words z, full-output output h)
+ran-is text keys words output z h = rw (is-sized keys words z, full-output output h)
 
 -- by what was read
 good-told : (m : Memory) (output : List ℕ) (rd : Read Script) (bytes : ℕ) → after-run m output rd .answer ≡ ran.Written bytes
@@ -84,7 +78,7 @@ good-told m output (bad n) bytes e = clash (cc)
 good-told m output (good s) bytes e =
     let text : List ℕ = run-text s in
     let size : length text ≡ bytes = cc in
-    (rw (sym size) (take-first text (drop (length text) output)), omega (arith, size, length-append text (drop (length text) output)))
+    (rw (sym size) (take-at text (drop (length text) output) (length text) refl), omega (arith, size, length-append text (drop (length text) output)))
 
 bad-told : (m : Memory) (output : List ℕ) (rd : Read Script) (line : ℕ) → after-run m output rd .answer ≡ ran.BadScript line → printed (bad line) ≡ printed rd
 bad-told m output (bad n) line e = let same : n ≡ line = cc in ap (λ k. printed (bad k)) (sym same)

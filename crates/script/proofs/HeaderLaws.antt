@@ -11,8 +11,8 @@ use borrow.Author.Tests.{le-leb, eq-eqb, leb-true, eqb-true}
 use Rattle.catalogue.specs.Tests.{pick, given, one-to}
 use Rattle.catalogue.specs.Numbers.{most-workers}
 use Rattle.catalogue.specs.Script.{Header, header-of, header-fits, sum, unsnoc, put-first, most-requests, most-turns}
-use Rattle.catalogue.proofs.Picks.{clash}
-use Rattle.script.proofs.Tools.{both-true, picked, none-if}
+use Rattle.catalogue.proofs.Picks.{clash, both-true, pick-some}
+use Rattle.script.proofs.Tools.{none-if}
 
 -- ---- the members before the last, and the last
 
@@ -91,7 +91,7 @@ parts workers xs h e = by (unsnoc xs) (unsnoc-is xs) e
     by none joins e = clash (cc)
     by (some r) joins e =
         let made : Header = record { counts = r .0; turns = r .1 } in
-        let p : (header-fits workers (r .0) (r .1) ≡ true) × (some made ≡ some h) = picked (header-fits workers (r .0) (r .1)) (some made) h e in
+        let p : (header-fits workers (r .0) (r .1) ≡ true) × (some made ≡ some h) = pick-some (header-fits workers (r .0) (r .1)) (some made) h e in
         let m : made ≡ h = cc (p .1) in
         let q : (one-to most-workers workers ≡ true) × (pick (eqb (length (r .0)) workers) (pick (leb (sum (r .0)) most-requests) (leb (r .1) most-turns) false) false ≡ true) =
         both-true (one-to most-workers workers) (pick (eqb (length (r .0)) workers) (pick (leb (sum (r .0)) most-requests) (leb (r .1) most-turns) false) false) (p .0) in

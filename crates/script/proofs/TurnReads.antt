@@ -10,7 +10,7 @@ use lib.ListN.{length, drop}
 use borrow.Author.Tests.{eqb-true}
 use Rattle.catalogue.specs.Tests.{pick, given, every}
 use Rattle.catalogue.specs.Script.{next-line, words, all-of, natural, read-schedule}
-use Rattle.catalogue.proofs.Picks.{clash}
+use Rattle.catalogue.proofs.Picks.{clash, pick-some}
 use Rattle.script.specs.Words.{behind, number-at}
 use Rattle.script.specs.Lines.{line-in, line-at, words-at}
 use Rattle.script.specs.Turns.{as-after, schedule-at, scheduled, turn-of}
@@ -19,7 +19,6 @@ use Rattle.script.specs.declared.numbers.Number.{Number}
 use Rattle.script.specs.declared.numbers.Number.the-variants as number
 use Rattle.script.specs.declared.turns.After.the-variants as after
 use Rattle.script.proofs.Cursors.{turns-none, turns-one}
-use Rattle.script.proofs.Tools.{picked}
 use Rattle.script.proofs.LineLaws.{words-none}
 use Rattle.script.proofs.ScheduledLaws.{tested, tested-none, with-first, by-number, by-turns, scheduled-never}
 use Rattle.script.proofs.ScheduleLaws.{schedule-by-words}
@@ -46,13 +45,13 @@ module _ (workers : ℕ) (few : workers ≤ 8) (text : List ℕ) where
       by : (m : Number) → number-at text at ≡ m → by-number workers text turns m ≡ some r → r .0 ≡ turns-from text (suc turns) at
       by number.Bad q e = clash (cc)
       by (number.Last w next) q e =
-          let p : (ltb w workers ≡ true) × (pick (eqb 0 turns) (some (w ∷ [], next)) none ≡ some r) = picked (ltb w workers) (pick (eqb 0 turns) (some (w ∷ [], next)) none) r e in
-          let s : (eqb 0 turns ≡ true) × (_≡_ {A = Option (List ℕ × ℕ)} (some (w ∷ [], next)) (some r)) = picked (eqb 0 turns) (some (w ∷ [], next)) r (p .1) in
+          let p : (ltb w workers ≡ true) × (pick (eqb 0 turns) (some (w ∷ [], next)) none ≡ some r) = pick-some (ltb w workers) (pick (eqb 0 turns) (some (w ∷ [], next)) none) r e in
+          let s : (eqb 0 turns ≡ true) × (_≡_ {A = Option (List ℕ × ℕ)} (some (w ∷ [], next)) (some r)) = pick-some (eqb 0 turns) (some (w ∷ [], next)) r (p .1) in
           let t : _≡_ {A = List ℕ × ℕ} (w ∷ [], next) r = cc (s .1) in
           last w next q (eqb-true 0 turns (s .0)) t
       by (number.More w next) q e =
           more w next q (words-at (scheduled workers turns) text next) refl
-          (picked (ltb w workers) (with-first w (words-at (scheduled workers turns) text next)) r e .1)
+          (pick-some (ltb w workers) (with-first w (words-at (scheduled workers turns) text next)) r e .1)
 
   by-words : (turns : ℕ) → Reads turns
   by-words zero at r e = clash (cc (words-none (scheduled workers 0) text at (scheduled-never workers)))
@@ -88,8 +87,8 @@ module _ (workers : ℕ) (few : workers ≤ 8) (text : List ℕ) where
       each : (ns ms : List ℕ) → tested workers turns ns ≡ some ms → every (λ w. ltb w workers) ms ≡ true
       each ns ms e =
           let p : (eqb (length ns) turns ≡ true) × (pick (every (λ w. ltb w workers) ns) (some ns) none ≡ some ms) =
-          picked (eqb (length ns) turns) (pick (every (λ w. ltb w workers) ns) (some ns) none) ms e in
-          let q : (every (λ w. ltb w workers) ns ≡ true) × (some ns ≡ some ms) = picked (every (λ w. ltb w workers) ns) (some ns) ms (p .1) in
+          pick-some (eqb (length ns) turns) (pick (every (λ w. ltb w workers) ns) (some ns) none) ms e in
+          let q : (every (λ w. ltb w workers) ns ≡ true) × (some ns ≡ some ms) = pick-some (every (λ w. ltb w workers) ns) (some ns) ms (p .1) in
           let t : ns ≡ ms = cc (q .1) in
           ap (every (λ w. ltb w workers)) (sym t) ∙ q .0
 

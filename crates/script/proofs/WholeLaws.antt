@@ -27,7 +27,7 @@ use Rattle.script.specs.declared.turns.After.{After}
 use Rattle.script.specs.declared.turns.After.the-variants as after
 use Rattle.script.specs.declared.checks.Verdict.the-variants.{Good, Bad}
 use Rattle.script.specs.declared.checks.Checked.{Checked}
-use Rattle.script.proofs.Tools.{lt-or}
+use Rattle.catalogue.proofs.Cases.{lt-or}
 use Rattle.script.proofs.ReadLaws.{line-read, skip-read}
 use Rattle.script.proofs.StartLaws.{skipped-of, starts-skip, starts-first, starts-shares}
 use Rattle.script.proofs.TurnReads.{turns-read, turns-manned}

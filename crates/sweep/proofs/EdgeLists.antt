@@ -17,8 +17,7 @@ use Rattle.catalogue.proofs.Members.{all-each, all-any, all-append, all-map}
 use Rattle.catalogue.proofs.Cases.{same?, upd-at, upd-other}
 use Rattle.resting.specs.Rows.{Numbered}
 use Rattle.sweep.specs.Built.{committed, edge-write, with-edge, with-edges, with-lists}
-use Rattle.lent.proofs.Agrees.{Agree, lay-agree}
-use Rattle.lent.proofs.Commits.{committed-lay}
+use Rattle.memory.proofs.Agrees.{Agree, lay-agree, committed-lay}
 use Rattle.sweep.proofs.NodeLaws.{first-written, next-written}
 use Rattle.sweep.proofs.Swept.{elink-of, swept-of}
 use Rattle.sweep.proofs.Sources.{Below, more-at, new-source, elink-new, last-apart, last-joined, elsewhere}

@@ -23,7 +23,7 @@ use Rattle.memory.specs.Memories.{Hold}
 use Rattle.survey.specs.Walks.{linked}
 use Rattle.listing.specs.Walks.{kept-from, unmarked-from, live-of}
 use Rattle.sweep.specs.Built.{with-vertices, numbered, number-of, target-number, lists-built}
-use Rattle.lent.proofs.Agrees.{lay-agree}
+use Rattle.memory.proofs.Agrees.{lay-agree}
 use Rattle.sweep.proofs.NodeLaws.{held}
 use Rattle.sweep.proofs.NewNumbers.{counted, placed}
 use Rattle.sweep.proofs.Swept.{swept-of, swept-is}

@@ -17,8 +17,7 @@ use Rattle.catalogue.specs.Lent.{lay}
 use Rattle.catalogue.specs.Sweep.{first-of, next-swept}
 use Rattle.catalogue.proofs.Cases.{same?, lt-or, upd-at, upd-other}
 use Rattle.sweep.specs.Built.{last-vertex, vertex-write, with-vertices}
-use Rattle.lent.proofs.Agrees.{Agree, lay-agree}
-use Rattle.lent.proofs.Commits.{committed-lay}
+use Rattle.memory.proofs.Agrees.{Agree, lay-agree, committed-lay}
 use Rattle.sweep.proofs.Ends.{getD-end}
 use Rattle.sweep.proofs.Swept.{vlink-of, elink-of, swept-of}
 

@@ -13,7 +13,7 @@ use Rattle.catalogue.specs.declared.workers.Worker.{Worker}
 use Rattle.catalogue.specs.declared.steps.Decision.{Decision}
 use Rattle.catalogue.specs.declared.steps.Decision.the-variants as decision
 use Rattle.lent.proofs.Twins.{Twin, twin, pick-twin}
-use Rattle.lent.proofs.Agrees.{Agree}
+use Rattle.memory.proofs.Agrees.{Agree}
 use Rattle.lent.proofs.Entries.{all-read, all-set, all-replicate}
 use Rattle.lent.proofs.Ranges.{Near, Place-near, Leads-near, In-range}
 use Rattle.lent.proofs.Steps.Vertices.{step-vertex-twin}

@@ -19,7 +19,8 @@ use Rattle.catalogue.specs.declared.workers.Prev.the-variants.{First, Edge}
 use Rattle.catalogue.specs.declared.steps.EdgeSeen.{EdgeSeen}
 use Rattle.catalogue.specs.declared.steps.EdgeSeen.the-variants as seen
 use Rattle.lent.proofs.Twins.{Twin, twin, Same, through, pick-twin, edge-twin, both-twin}
-use Rattle.lent.proofs.Agrees.{Agree, first-link-same, edge-key-same, edge-link-same}
+use Rattle.memory.proofs.Agrees.{Agree}
+use Rattle.lent.proofs.Agrees.{first-link-same, edge-key-same, edge-link-same}
 use Rattle.lent.proofs.Reading.{mark-read, first-read, edge-read, target-read}
 use Rattle.lent.proofs.Ranges.{Near, Leads-near, edge-place-near}
 

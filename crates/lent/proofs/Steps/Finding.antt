@@ -10,7 +10,8 @@ use Rattle.catalogue.specs.Steps.Finding.{look-for, decide-contains, step-conta
 use Rattle.catalogue.specs.declared.steps.VertexFound.{VertexFound}
 use Rattle.catalogue.specs.declared.steps.VertexFound.the-variants as found
 use Rattle.lent.proofs.Twins.{Twin, twin, through, pick-twin}
-use Rattle.lent.proofs.Agrees.{Agree, vertex-key-same}
+use Rattle.memory.proofs.Agrees.{Agree}
+use Rattle.lent.proofs.Agrees.{vertex-key-same}
 use Rattle.lent.proofs.Reading.{vertex-read, mark-read, first-read}
 use Rattle.lent.proofs.Ranges.{Near, Leads-near, find-u-near, find-v-near, edges-place-near}
 

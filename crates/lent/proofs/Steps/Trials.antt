@@ -10,7 +10,7 @@ use Rattle.catalogue.specs.Steps.Trial.{ends-fit, end-trial, cross, pass-edge, 
 use Rattle.catalogue.specs.declared.workers.Place.{Place}
 use Rattle.catalogue.specs.declared.workers.Place.the-variants.{TrialOpen}
 use Rattle.lent.proofs.Twins.{Twin, twin, Same, pick-twin, both-twin}
-use Rattle.lent.proofs.Agrees.{Agree}
+use Rattle.memory.proofs.Agrees.{Agree}
 use Rattle.lent.proofs.Reading.{mark-read, first-read, edge-read, target-read}
 use Rattle.lent.proofs.Ranges.{Near, Place-near, Leads-near}
 use Rattle.lent.proofs.Steps.Edges.{see-both-twin}

@@ -14,7 +14,8 @@ use Rattle.catalogue.specs.declared.links.Room.the-variants as room
 use Rattle.catalogue.specs.declared.steps.VertexSeen.{VertexSeen}
 use Rattle.catalogue.specs.declared.steps.VertexSeen.the-variants as seen
 use Rattle.lent.proofs.Twins.{Twin, twin, through, pick-twin}
-use Rattle.lent.proofs.Agrees.{Agree, vertex-key-same}
+use Rattle.memory.proofs.Agrees.{Agree}
+use Rattle.lent.proofs.Agrees.{vertex-key-same}
 use Rattle.lent.proofs.Reading.{vertex-read}
 use Rattle.lent.proofs.Ranges.{Near, Leads-near, vertex-place-near}
 

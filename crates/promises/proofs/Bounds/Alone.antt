@@ -28,9 +28,9 @@ use Rattle.promises.proofs.Showing.Pools.{vertices-in-pool, edges-in-po
 use Rattle.promises.proofs.Showing.Weighing.{weigh, weigh-none, weigh-same, total-two}
 use Rattle.promises.proofs.Lists.Meets.{edges-walk}
 use Rattle.promises.proofs.Runs.Held.{Held, busy-is}
-use Rattle.promises.proofs.Runs.Stepping.{replied}
+use Rattle.promises.proofs.Runs.Stepping.{replied, Carried}
 use Rattle.promises.proofs.Runs.Course.{held-at}
-use Rattle.promises.proofs.Bounds.OwnStep.{Own-step, own-step, silent}
+use Rattle.promises.proofs.Bounds.OwnStep.{own-step, silent}
 use Rattle.promises.proofs.Bounds.Costs.{cost}
 use Rattle.promises.proofs.Bounds.Tally.{Tally, counts, ends-closed}
 use Rattle.promises.proofs.Bounds.Inserting.{inserts}
@@ -64,7 +64,7 @@ module _ (workers : ℕ) (most : workers ≤ 8) (w : ℕ) (low : w < workers) (k
     ok : Ok W (Trial k l u v e (t .hunt))
     ok = rw (t .stands) at (t .held .fine .ok w)
 
-    acts : Own-step workers m (t .conf) w
+    acts : Carried workers (t .conf) w (step (m .catalogue) (m .table) w)
     acts =
         own-step workers m (t .conf) (t .held) most w low
         (busy-is (W .v .used) (worker-at (m .table) w) (t .conf .at w) (t .held .shown w (omega arith) .stands) ∙ ap (λ s. not (resting s)) (t .stands))

@@ -22,7 +22,7 @@ use Rattle.promises.proofs.Runs.Held.{Held}
 use Rattle.promises.proofs.Runs.Course.{held-at}
 use Rattle.promises.proofs.Bounds.Far.{far, limit, entered}
 use Rattle.promises.proofs.Bounds.Looking.{head-passed}
-use Rattle.promises.proofs.Bounds.TakingUp.{taking-both, begins}
+use Rattle.promises.proofs.Runs.Taking.{taking-both, begins}
 use Rattle.promises.proofs.Bounds.Rising.{bounded}
 
 -- where a call with a bound begins
@@ -66,7 +66,7 @@ call-most code most first workers choices g w k l q =
     let h : Held workers m X = z .1 in
     taking-both workers m X h (g .most) w code k l
     (λ (a : After). accepted (a .answer) ≡ true → Quiet-most w most (record { catalogue = a .catalogue; table = a .table }))
-    (λ r e. clash (cc))
+    (λ r t e. clash (cc))
     (λ low b c r e.
     let y = begins workers m X h (g .most) w code k l (q .0) (q .1) low b c r in
     let f = first (X .world) (h .fine .good) (X .world .v .used) k l (X .world .v .next 0) (y .ask) (y .shown .stands) in

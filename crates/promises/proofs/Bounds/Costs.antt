@@ -7,10 +7,11 @@ use native.Mathlib.Omega.{arith}
 use lib.ListN.{length}
 use lib.Signed.{_<ℤ_}
 use Rattle.catalogue.specs.Live.{walk}
+use Rattle.catalogue.proofs.Walks.{walk-end, walk-step}
 use Rattle.row.specs.Lists.Edges.{at, Mine}
 use Rattle.row.specs.Machine.World.{World, Opened, closed, opened}
 use Rattle.row.specs.Graphs.Good.{WGood}
-use Rattle.promises.proofs.Lists.Walked.{at-end, further, spare, walk-spare}
+use Rattle.promises.proofs.Lists.Walked.{spare, walk-spare}
 
 -- how long a list is from an edge on
 abbrev pub ahead : World → ℕ → ℕ
@@ -25,7 +26,7 @@ left W closed = 0
 left W (opened x c) = 1 + ahead W c
 
 pub at-tail : (W : World) → ahead W 0 ≡ 0
-at-tail W = ap length (at-end (W .e .next) 0 2047 0 refl)
+at-tail W = ap length (walk-end (W .e .next) 0 2048 0 refl)
 
 -- an edge on, one less is ahead
 module _ (W : World) (g : WGood W) (few-edges : W .e .used ≤ 2048) (x c : ℕ) (m : Mine (W .e) x (at c)) (d : c ≡ 0 → ⊥) where
@@ -41,6 +42,6 @@ module _ (W : World) (g : WGood W) (few-edges : W .e .used ≤ 2048) (x c : ℕ)
 
   pub one-less : ahead W c ≡ suc (ahead W (W .e .next c))
   one-less =
-      let short : length (walk (W .e .next) 0 2048 c) < 2048 = walk-spare (W .e .next) 0 (W .e .key) Own rises 2048 below (omega arith) c m in
-      let s : suc (length (walk (W .e .next) 0 2047 (W .e .next c))) < 2048 = rw (further (W .e .next) 0 2047 c d) at short in
-      ap length (further (W .e .next) 0 2047 c d) ∙ ap (λ (l : List ℕ). suc (length l)) (sym (spare (W .e .next) 0 2047 (W .e .next c) (omega arith)))
+      let short : length (walk (W .e .next) 0 2048 c) < 2048 = walk-spare (W .e .next) 0 (W .e .key) Own rises 2048 c m below (omega arith) in
+      let s : suc (length (walk (W .e .next) 0 2047 (W .e .next c))) < 2048 = rw (walk-step (W .e .next) 0 2047 c d) at short in
+      ap length (walk-step (W .e .next) 0 2047 c d) ∙ ap (λ (l : List ℕ). suc (length l)) (sym (spare (W .e .next) 0 2047 (W .e .next c) (omega arith)))

@@ -1,10 +1,10 @@
 -- Every choice but a busy worker's own step leaves that worker where it stands, and keeps the lists. Assumes nothing.
 use Prim.Native.Nat.{ℕ, _≤_, _<_}
 use mathlib.Core.Bool.{true, false}
-use mathlib.Core.Path.{_≡_, refl, sym, ap, subst}
+use mathlib.Core.Path.{_≡_, refl, sym, ap}
 use borrow.Author.Tests.{eqb-false}
 use lib.IntN.{ℤ}
-use Rattle.catalogue.specs.Calls.{After, count-fits, worker-fits, take-up, step}
+use Rattle.catalogue.specs.Calls.{After, count-fits, take-up, step}
 use Rattle.catalogue.specs.Runs.{Choice, takes, steps, sweeps, Moment, choose}
 use Rattle.catalogue.specs.Sweep.{After-sweep, sweep-into, any-busy}
 use Rattle.catalogue.specs.Workers.{busy}
@@ -18,8 +18,8 @@ use Rattle.promises.specs.Moments.{Key, Keyed}
 use Rattle.promises.specs.Bounds.{lets}
 use Rattle.promises.proofs.Runs.Held.{Held}
 use Rattle.promises.proofs.Runs.Sweeping.{idle-below}
-use Rattle.promises.proofs.Bounds.OwnStep.{in-table, step-is, own-step}
-use Rattle.promises.proofs.Bounds.TakingUp.{taking-both, begins}
+use Rattle.promises.proofs.Runs.Stepping.{stepping-both}
+use Rattle.promises.proofs.Runs.Taking.{taking-both, begins}
 
 -- another choice: w stands where it stood
 pub record Passes (workers : ℕ) (m : Moment) (X : Conf) (w : ℕ) : Type 0 where
@@ -40,24 +40,18 @@ module _ (workers : ℕ) (m : Moment) (X : Conf) (h : Held workers m X) (most : 
   after-call a = Passes workers (record { catalogue = a .catalogue; table = a .table }) X w
 
   steps-by : (v : ℕ) → (w ≡ v → ⊥) → after-call (step (m .catalogue) (m .table) v)
-  unfolding step
   steps-by v n =
-      pick-both after-call (worker-fits (m .table .count) v) _ _
-      (λ e.
-      let low = in-table workers m X h most v e in
-      pick-both after-call (busy (m .table) v) _ _
-      (λ b. subst after-call (step-is workers m X h most v low b) (record {
+      stepping-both workers m X h most v after-call (λ r t. unchanged)
+      (λ c. record {
         conf = act X (Runs.steps v);
-        held = own-step workers m X h most v low b .held;
+        held = c .held;
         same = upd-other (X .at) v _ w n;
         both = act-both X (h .fine) (Runs.steps v) (λ W z. clash (cc));
-      }))
-      (λ b. unchanged))
-      (λ e. unchanged)
+      })
 
   takes-by : busy (m .table) w ≡ true → (v code : ℕ) (k l : ℤ) → Key k → Key l → after-call (take-up (m .catalogue) (m .table) v code k l)
   takes-by b v code k l hk hl =
-      taking-both workers m X h most v code k l after-call (λ r. unchanged)
+      taking-both workers m X h most v code k l after-call (λ r t. unchanged)
       (λ low i c r.
       let z = begins workers m X h most v code k l hk hl low i c r in
       record { conf = _; held = z .held; same = upd-other (X .at) v _ w (λ e. clash (cc (ap (busy (m .table)) e))); both = still })

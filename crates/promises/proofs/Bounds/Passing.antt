@@ -8,16 +8,16 @@ use lib.IntN.{ℤ}
 use lib.Signed.{_<ℤ_, ltZ, <ℤ-irrefl}
 use Rattle.catalogue.specs.Tests.{pick}
 use Rattle.catalogue.proofs.Keys.{risen}
+use Rattle.catalogue.proofs.Rules.{not-true-false}
 use Rattle.row.specs.Base.{<ℤ-trans, ltZ-true}
 use Rattle.row.specs.Lists.Edges.{InList}
 use Rattle.row.specs.Tests.{and-true}
 use Rattle.row.specs.Machine.World.{World}
-use Rattle.promises.proofs.Showing.Tests.{never}
 use Rattle.promises.proofs.Bounds.Counting.{count-more}
 use Rattle.promises.proofs.Bounds.Far.{below, vertices-passed, among, edges-that, behind}
 
 not-itself : (k : ℤ) → ltZ k k ≡ false
-not-itself k = never (ltZ k k) (λ e. <ℤ-irrefl (ltZ-true k k e))
+not-itself k = not-true-false (ltZ k k) (λ e. <ℤ-irrefl (ltZ-true k k e))
 
 -- below a key is below every greater one
 further : (a k l : ℤ) → k <ℤ l → ltZ a k ≡ true → ltZ a l ≡ true

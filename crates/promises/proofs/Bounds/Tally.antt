@@ -14,10 +14,11 @@ use Rattle.row.specs.Base.{upd-at, upd-other, same?}
 use Rattle.row.specs.Lists.Edges.{marked, at, Mine, is-marked, retag}
 use Rattle.row.specs.Machine.World.{World, with-e, Opened, closed, opened, Hunt, stands-at, meets, took, Trial, Next, goes, says}
 use Rattle.row.specs.Machine.Moves.{hunt-open, hunt-take, hunts, move}
-use Rattle.row.specs.Steps.Spots.{Mem, StandOk}
+use Rattle.row.specs.Steps.Spots.{StandOk}
+use Rattle.row.specs.Tests.{or-false}
 use Rattle.row.specs.Graphs.Good.{WGood}
 use Rattle.promises.proofs.Showing.Shows.{Searched}
-use Rattle.promises.proofs.Showing.Tests.{or-false}
+use Rattle.promises.proofs.Hunts.Searching.{front-met, front-new}
 use Rattle.promises.proofs.Showing.Weighing.{weigh, weigh-one-more}
 use Rattle.promises.proofs.Bounds.Far.{Entered}
 use Rattle.promises.proofs.Bounds.Costs.{ahead, cost, left, at-tail, one-less}
@@ -43,11 +44,8 @@ module _ (W : World) (g : WGood W) (few : W .v .used ≤ 256) (few-edges : W .e 
   takes q [] r z = clash (cc)
   takes q (x ∷ xs) r z = by (eqb x u) (W .v .marked x) refl z
     where
-      first : Mem x (h .todo)
-      first = rw r (inl refl)
-
       plain : W .v .marked x ≡ false
-      plain = t .plain calm x (s .todo-met x first)
+      plain = t .plain calm x (front-met s x xs r)
 
       by : (a b : Bool) → W .v .marked x ≡ b
           → Goes (cond a (says (with-e W (retag (W .e) e marked)) 6) (cond b (goes W (Trial k l u v e (took h x xs closed))) (goes W (Trial k l u v e (took h x xs (opened x (W .e .first x)))))))
@@ -60,7 +58,7 @@ module _ (W : World) (g : WGood W) (few : W .v .used ≤ 256) (few-edges : W .e 
           plain = t .plain;
           enters = upd-at (h .taken) x true x refl;
           spent =
-              let one = weigh-one-more (cost W) (h .taken) x (s .todo-new x first) 256 (omega (arith, s .met-series x (s .todo-met x first) .high)) in
+              let one = weigh-one-more (cost W) (h .taken) x (front-new s x xs r) 256 (omega (arith, s .met-series x (front-met s x xs r) .high)) in
               let before : i + 0 ≡ weigh (cost W) (h .taken) 256 = rw q at (t .spent) in
               omega (arith, one, before);
         };
@@ -114,8 +112,8 @@ counts W g few few-edges k l u v e i h s p t = by (W .v .marked u || W .v .marke
         → (cond a (says (with-e W (retag (W .e) e marked)) 3) (hunts W k l u v e h o)) .answer ≡ none
         → Counts W k l u v e i (cond a (says (with-e W (retag (W .e) e marked)) 3) (hunts W k l u v e h o))
     by true f o q p z = clash (cc)
-    by false f closed q p z = takes W g few few-edges k l u v e i h s t (or-false (W .v .marked u) (W .v .marked v) f) q (h .todo) refl z
-    by false f (opened x c) q p z = opens W g few few-edges k l u v e i h s t (or-false (W .v .marked u) (W .v .marked v) f) x c q p z
+    by false f closed q p z = takes W g few few-edges k l u v e i h s t (or-false (W .v .marked u) (W .v .marked v) f .1) q (h .todo) refl z
+    by false f (opened x c) q p z = opens W g few few-edges k l u v e i h s t (or-false (W .v .marked u) (W .v .marked v) f .1) x c q p z
 
 -- a trial that is replied 1 has nothing open
 pub ends-closed : (W : World) (k l : ℤ) (u v e : ℕ) (h : Hunt) → move W (Trial k l u v e h) .answer ≡ some 1 → h .stand ≡ closed

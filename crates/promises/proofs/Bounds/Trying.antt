@@ -2,7 +2,6 @@
 use Prim.Native.Nat.{ℕ, suc, _≤_, _<_}
 use mathlib.Core.Bool.{Bool, true, false, cond, not, _&&_, _||_}
 use mathlib.Core.List.{List, [], _∷_}
-use mathlib.Core.Logic.{inl}
 use mathlib.Core.Path.{_≡_, refl, ap, _∙_}
 use native.Mathlib.Omega.{arith}
 use borrow.Author.Tests.{eqb-true, eqb-false, ne-eqb, le-leb}
@@ -11,16 +10,16 @@ use lib.IntN.{ℤ}
 use Rattle.catalogue.specs.Tests.{pick, upd}
 use Rattle.catalogue.specs.Workers.{count}
 use Rattle.catalogue.proofs.Picks.{clash}
-use Rattle.row.specs.Base.{upd-at}
+use Rattle.row.specs.Tests.{or-false}
+use Rattle.row.specs.Base.{upd-at, upd-true}
 use Rattle.row.specs.Lists.Edges.{marked, at, Mine, is-marked, retag}
 use Rattle.row.specs.Machine.World.{World, with-e, Opened, closed, opened, Hunt, stands-at, meets, took, Trial, Next, goes, says}
 use Rattle.row.specs.Machine.Moves.{hunt-open, hunt-take, hunts, move}
 use Rattle.row.specs.Steps.Spots.{StandOk}
 use Rattle.row.specs.Graphs.Good.{WGood}
 use Rattle.promises.proofs.Showing.Shows.{Searched}
+use Rattle.promises.proofs.Hunts.Searching.{front-met, front-new}
 use Rattle.promises.proofs.Showing.Tail.{no-tail}
-use Rattle.promises.proofs.Showing.Tests.{or-false}
-use Rattle.promises.proofs.Hunts.Searching.{upd-true}
 use Rattle.promises.proofs.Bounds.Counting.{count-le, count-more}
 use Rattle.promises.proofs.Bounds.Far.{among, edges-that, over, behind, Entered}
 use Rattle.promises.proofs.Bounds.Passing.{both-hold, edge-passed}
@@ -63,10 +62,10 @@ module _ (W : World) (g : WGood W) (few : W .v .used ≤ 256) (k l : ℤ) (u v e
   takes-further q (x ∷ xs) r = by (eqb x u) (W .v .marked x)
     where
       new : h .taken x ≡ false
-      new = s .todo-new x (rw r (inl refl))
+      new = front-new s x xs r
 
       more : suc (count (h .taken) 256) ≤ count (upd (h .taken) x true) 256
-      more = one-more (h .taken) x new (omega (arith, s .met-series x (s .todo-met x (rw r (inl refl))) .high))
+      more = one-more (h .taken) x new (omega (arith, s .met-series x (front-met s x xs r) .high))
 
       by : (a b : Bool) → Goes (cond a (says (with-e W (retag (W .e) e marked)) 6) (cond b (goes W (Trial k l u v e (took h x xs closed))) (goes W (Trial k l u v e (took h x xs (opened x (W .e .first x)))))))
       by true b z = clash (cc)
@@ -83,7 +82,7 @@ module _ (W : World) (g : WGood W) (few : W .v .used ≤ 256) (k l : ℤ) (u v e
       on : (W .v .marked x || eqb c 0) ≡ false
           → suc (edges-that W (behind (h .taken) x (W .e .key c))) ≤ edges-that W (behind (h .taken) x (W .e .key (W .e .next c)))
       on f =
-          let n = eqb-false c 0 (or-false (W .v .marked x) (eqb c 0) f) in
+          let n = eqb-false c 0 (or-false (W .v .marked x) (eqb c 0) f .1) in
           edge-passed W (h .taken) x c (W .e .next c) (no-tail (W .e) x c m n) (g .esound .sorted x .follows (at c) m (λ z. n (cc)) .above)
 
       by : (a : Bool) → (W .v .marked x || eqb c 0) ≡ a → (b : Bool)

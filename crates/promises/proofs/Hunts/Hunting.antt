@@ -2,7 +2,6 @@
 use Prim.Native.Nat.{ℕ, _+_, _≤_, _<_}
 use mathlib.Core.Bool.{true, false}
 use mathlib.Core.List.{List, [], _∷_, _++_}
-use mathlib.Core.Logic.{inl}
 use mathlib.Core.Path.{_≡_, refl, sym, ap, _∙_}
 use native.Mathlib.Omega.{arith}
 use lib.ListN.{length, take, length-set}
@@ -17,7 +16,7 @@ use Rattle.promises.proofs.Showing.Weighing.{weigh-none, weigh-one-more
 use Rattle.promises.proofs.Showing.Shows.{Series, Open, Hunted}
 use Rattle.promises.proofs.Hunts.MetSet.{none-counted, with-met-words, with-met-upd, met-count-up, met-count-room}
 use Rattle.promises.proofs.Hunts.Queue.{queue-put, queue-empty, queue-some, queue-first, queue-rest, taken-stay, queue-took}
-use Rattle.promises.proofs.Hunts.Searching.{nobody-searched, searched-meets, searched-takes}
+use Rattle.promises.proofs.Hunts.Searching.{nobody-searched, searched-meets, searched-takes, front-met, front-new}
 
 module _ (used : ℕ) (w : Worker) (h : Hunt) (r : Hunted used w h) where
   pub hunted-keeps : (place : Place) (o : Opened) → Open used o → Hunted used (kept w place) (stands-at h o)
@@ -79,7 +78,7 @@ module _ (used : ℕ) (w : Worker) (h : Hunt) (r : Hunted used w h) where
     front-is = queue-first (w .queue) (w .front) (w .back) (r .ordered) fits-length x xs (r .queue-same ∙ front)
 
     pub front-series : Series used x
-    front-series = let d = r .searched in d .met-series x (d .todo-met x (rw front (inl refl)))
+    front-series = let d = r .searched in d .met-series x (front-met d x xs front)
 
     pub hunted-takes : used ≤ 256 → (place : Place) (o : Opened) → Open used o → Hunted used (taken w place) (took h x xs o)
     hunted-takes in-pool place o stand = record {
@@ -94,7 +93,7 @@ module _ (used : ℕ) (w : Worker) (h : Hunt) (r : Hunted used w h) where
       weighed = λ f.
           ap (total f) (queue-took (w .queue) (w .front) (w .back) (r .ordered) fits-length x xs (r .queue-same ∙ front))
           ∙ (total-last f (take (w .front) (w .queue)) x
-          ∙ (ap (λ (n : ℕ). n + f x) (r .weighed f) ∙ sym (weigh-one-more f (h .taken) x (r .searched .todo-new x (rw front (inl refl))) 256 (omega (arith, front-series)))));
+          ∙ (ap (λ (n : ℕ). n + f x) (r .weighed f) ∙ sym (weigh-one-more f (h .taken) x (front-new (r .searched) x xs front) 256 (omega (arith, front-series)))));
       open-series = stand;
     }
 

@@ -3,50 +3,51 @@ use Prim.Native.Nat.{ℕ}
 use mathlib.Core.Bool.{Bool, true, false}
 use mathlib.Core.List.{List, [], _∷_, _++_}
 use mathlib.Core.Logic.{inl, inr}
-use mathlib.Core.Path.{_≡_, refl, sym, _∙_}
+use mathlib.Core.Path.{_≡_, refl, sym, ap, _∙_, subst}
 use Rattle.catalogue.specs.Tests.{upd}
 use Rattle.catalogue.proofs.Picks.{clash}
-use Rattle.row.specs.Base.{upd-at, upd-other, same?}
-use Rattle.row.specs.Steps.Spots.{Mem}
-use Rattle.promises.proofs.Showing.Shows.{Series, Once, Searched}
-use Rattle.promises.proofs.Showing.Tests.{never}
-
--- who is in a list with one more at its end is in the list, or is that one
-in-longer : (P : ℕ → Type 0) (xs : List ℕ) (y : ℕ) → ((x : ℕ) → Mem x xs → P x) → P y → (x : ℕ) → Mem x (xs ++ (y ∷ [])) → P x
-in-longer P [] y f p x (inl e) = rw e p
-in-longer P (z ∷ zs) y f p x (inl e) = f x (inl e)
-in-longer P (z ∷ zs) y f p x (inr m) = in-longer P zs y (λ a n. f a (inr n)) p x m
-
-once-longer : (xs : List ℕ) (y : ℕ) → Once xs → (Mem y xs → ⊥) → Once (xs ++ (y ∷ []))
-once-longer [] y o n = (λ m. m, tt)
-once-longer (z ∷ zs) y o n =
-    (λ m. in-longer (λ x. x ≡ z → ⊥) zs y (λ x m e. o .0 (rw e at m)) (λ e. n (inl e)) z m refl, once-longer zs y (o .1) (λ m. n (inr m)))
-
--- what was met, or taken, still is
-pub upd-true : (f : ℕ → Bool) (y x : ℕ) → f x ≡ true → upd f y true x ≡ true
-upd-true f y x e = elim (same? x y) [ inl q ↦ upd-at f y true x q | inr d ↦ upd-other f y true x d ∙ e ]
+use Rattle.catalogue.proofs.Rules.{not-true-false}
+use Rattle.catalogue.proofs.Members.{All, all-each, all-join, all-append}
+use Rattle.catalogue.proofs.Distinct.{Distinct, distinct-append}
+use Rattle.row.specs.Base.{upd-at, upd-other, upd-true, same?}
+use Rattle.promises.proofs.Showing.Shows.{Series, Searched}
 
 pub nobody-searched : (used : ℕ) → Searched used (λ x. false) [] (λ x. false)
 nobody-searched used =
-    record { met-series = λ x e. clash (cc); taken-met = λ x e. e; todo-met = λ x m. absurd m; todo-new = λ x m. absurd m; todo-once = tt }
+    record { met-series = λ x e. clash (cc); taken-met = λ x e. e; todo-met = tt; todo-new = tt; todo-once = tt }
 
 module _ {used : ℕ} {met : ℕ → Bool} {todo : List ℕ} {taken : ℕ → Bool} (s : Searched used met todo taken) where
   pub searched-meets : (y : ℕ) → Series used y → met y ≡ false → Searched used (upd met y true) (todo ++ (y ∷ [])) taken
   searched-meets y i n = record {
     met-series = λ x e. elim (same? x y) [ inl q ↦ rw q i | inr d ↦ s .met-series x (sym (upd-other met y true x d) ∙ e) ];
     taken-met = λ x e. upd-true met y x (s .taken-met x e);
-    todo-met = in-longer (λ x. upd met y true x ≡ true) todo y (λ x m. upd-true met y x (s .todo-met x m)) (upd-at met y true y refl);
-    todo-new = in-longer (λ x. taken x ≡ false) todo y (s .todo-new) (never (taken y) (λ e. clash (cc (s .taken-met y e))));
-    todo-once = once-longer todo y (s .todo-once) (λ m. clash (cc (s .todo-met y m)));
+    todo-met = all-append _ todo (y ∷ []) (all-each _ _ (upd-true met y) todo (s .todo-met)) (upd-at met y true y refl, tt);
+    todo-new = all-append _ todo (y ∷ []) (s .todo-new) (not-true-false (taken y) (λ e. clash (cc (s .taken-met y e))), tt);
+    todo-once =
+        distinct-append todo (y ∷ []) (s .todo-once) (tt, tt)
+        (all-each (λ x. met x ≡ true) (λ x. All (λ z. z ≡ x → ⊥) (y ∷ [])) (λ x e. (λ q. clash (cc (ap met q)), tt)) todo (s .todo-met));
   }
 
-  pub searched-takes : (x : ℕ) (xs : List ℕ) → todo ≡ x ∷ xs → Searched used met xs (upd taken x true)
-  searched-takes x xs e =
-      let once : Once (x ∷ xs) = rw e at (s .todo-once) in
-      record {
-        met-series = s .met-series;
-        taken-met = λ z t. elim (same? z x) [ inl q ↦ s .todo-met z (rw e (inl q)) | inr d ↦ s .taken-met z (sym (upd-other taken x true z d) ∙ t) ];
-        todo-met = λ z m. s .todo-met z (rw e (inr m));
-        todo-new = λ z m. upd-other taken x true z (λ q. once .0 (rw q at m)) ∙ s .todo-new z (rw e (inr m));
-        todo-once = once .1;
-      }
+  -- the front of the queue was met, and not taken yet
+  module _ (x : ℕ) (xs : List ℕ) (e : todo ≡ x ∷ xs) where
+    front-of : (P : ℕ → Type 0) → All P todo → All P (x ∷ xs)
+    front-of P a = subst (All P) e a
+
+    pub front-met : met x ≡ true
+    front-met = front-of (λ y. met y ≡ true) (s .todo-met) .0
+
+    pub front-new : taken x ≡ false
+    front-new = front-of (λ y. taken y ≡ false) (s .todo-new) .0
+
+    pub searched-takes : Searched used met xs (upd taken x true)
+    searched-takes =
+        let once : Distinct (x ∷ xs) = subst Distinct e (s .todo-once) in
+        record {
+          met-series = s .met-series;
+          taken-met = λ z t. elim (same? z x) [ inl q ↦ rw q front-met | inr d ↦ s .taken-met z (sym (upd-other taken x true z d) ∙ t) ];
+          todo-met = front-of (λ y. met y ≡ true) (s .todo-met) .1;
+          todo-new =
+              all-each (λ y. (y ≡ x → ⊥) × (taken y ≡ false)) (λ y. upd taken x true y ≡ false) (λ y h. upd-other taken x true y (h .0) ∙ h .1) xs
+              (all-join _ _ xs (once .0) (front-of (λ y. taken y ≡ false) (s .todo-new) .1));
+          todo-once = once .1;
+        }

@@ -1,15 +1,13 @@
 -- A catalogue that shows a good world is sound: for a listing always, for a sweep where no edge is on trial. Assumes nothing.
-use Prim.Native.Nat.{ℕ, _≤_, _<_}
+use Prim.Native.Nat.{ℕ, _+_, _≤_, _<_}
 use mathlib.Core.Bool.{Bool, true, false, not}
 use mathlib.Core.List.{List, _∷_}
 use mathlib.Core.Logic.{inl, inr}
 use mathlib.Core.Path.{_≡_, refl, ap, _∙_}
 use native.Mathlib.Omega.{arith}
 use borrow.Author.Tests.{le-leb}
-use lib.Dec.{T, eqb}
-use lib.IntN.{ℤ}
+use lib.Dec.{eqb}
 use lib.ListN.{length}
-use lib.Signed.{_<ℤ_, ltZ}
 use Rattle.catalogue.specs.Tests.{pick, every, member}
 use Rattle.catalogue.specs.Catalogue.{Catalogue, first-link, at-edge}
 use Rattle.catalogue.specs.Numbers.{plain}
@@ -17,21 +15,16 @@ use Rattle.catalogue.specs.declared.links.EdgeLink.{EdgeLink}
 use Rattle.catalogue.specs.declared.links.EdgeLink.the-variants as edge
 use Rattle.catalogue.specs.Live.{vertices, edges-of, unmarked, live-vertices, live-edges-of, gather, is-live}
 use Rattle.catalogue.specs.Soundness.{Asks, listing, sweep, tag-fits, vertex-sound, target-sound, edge-sound, edges-sound, sound}
+use Rattle.catalogue.proofs.Members.{All, all-each, all-every, all-gather}
+use Rattle.catalogue.proofs.Distinct.{Distinct, distinct-keep, distinct-gather, pigeons}
+use Rattle.catalogue.proofs.Keys.{risen}
 use Rattle.row.specs.Tests.{eqZ-yes}
+use Rattle.row.specs.Lists.Store.{Stands}
 use Rattle.row.specs.Lists.Edges.{Tag, marked, transit, added, at, Mine, InList}
 use Rattle.row.specs.Machine.World.{World, Untried}
 use Rattle.row.specs.Graphs.Good.{WGood}
-use Rattle.promises.proofs.Showing.Shows.{Shows, vertex-tag-of, edge-tag-of}
-use Rattle.promises.proofs.Lists.Members.{Among, Distinct, every-is, member-is, keep-distinct, from-gathered, gather-distinct, pigeonhole}
-use Rattle.promises.proofs.Lists.Meets.{mark-v, met-v, distinct-v, meets-v, live-v, listed-in, distinct-e, live-e}
-
--- the test of an order that holds
-test-of : (a b : ℤ) → a <ℤ b → ltZ a b ≡ true
-test-of a b h = go (ltZ a b) (h .lt)
-  where
-    go : (t : Bool) → T t → t ≡ true
-    go true i = refl
-    go false i = absurd i
+use Rattle.promises.proofs.Showing.Shows.{Shows, Series, vertex-tag-of, edge-tag-of}
+use Rattle.promises.proofs.Lists.Meets.{LiveIn, mark-v, met-v, distinct-v, meets-v, live-v, listed-in, distinct-e, live-e}
 
 module _ (C : Catalogue) (W : World) (s : Shows C W) (g : WGood W) where
   head-sound : unmarked C 0 ≡ true
@@ -40,11 +33,13 @@ module _ (C : Catalogue) (W : World) (s : Shows C W) (g : WGood W) where
   one-vertex : (x : ℕ) → x < W .v .used → (x ≡ 1 → ⊥) → vertex-sound C x ≡ true
   one-vertex x h d =
       let f = g .good .sound .sorted .follows x h d in
-      rw (s .vlinks x h d, s .vkeys x h, s .vkeys (W .v .next x) (f .inside)) (test-of (W .v .key x) (W .v .key (W .v .next x)) (f .above))
+      rw (s .vlinks x h d, s .vkeys x h, s .vkeys (W .v .next x) (f .inside)) (risen (W .v .key x) (W .v .key (W .v .next x)) (f .above))
 
-  on-walk : (x : ℕ) → Among x (0 ∷ vertices C) → vertex-sound C x ≡ true
-  on-walk x (inl q) = rw q (one-vertex 0 (omega (arith, g .good .sound .some)) (λ e. omega arith))
-  on-walk x (inr i) = let m = met-v C W s g x i in let a = m .low in one-vertex x (m .high) (λ e. omega arith)
+  on-walk : All (λ x. vertex-sound C x ≡ true) (0 ∷ vertices C)
+  on-walk = (
+    one-vertex 0 (omega (arith, g .good .sound .some)) (λ e. omega arith),
+    all-each (Series (W .v .used)) (λ x. vertex-sound C x ≡ true) (λ x m. let a = m .low in one-vertex x (m .high) (λ e. omega arith)) (vertices C) (met-v C W s g),
+  )
 
   target-is : (e : ℕ) → 1 ≤ e → e < W .e .used → target-sound C e (W .e .target e) ≡ true
   target-is e l h =
@@ -58,7 +53,7 @@ module _ (C : Catalogue) (W : World) (s : Shows C W) (g : WGood W) where
       by true q = refl
       by false q =
           let w = g .ends e l h in
-          member-is (W .e .target e) (vertices C) (meets-v C W s g (W .e .target e) (record { low = w .target-low; high = w .target-high; plain = q }))
+          meets-v C W s g (W .e .target e) (record { low = w .target-low; high = w .target-high; plain = q })
 
   -- ---- the edges of a live vertex
 
@@ -80,18 +75,17 @@ module _ (C : Catalogue) (W : World) (s : Shows C W) (g : WGood W) where
         tag-is asks (W .e .tag e) (λ q t. n q e (record { low = i .low; high = i .high; tried = t })),
         s .ekeys e (i .high),
         s .ekeys (W .e .next e) (within u (W .e .next e) (f .inside)),
-        test-of (W .e .key e) (W .e .key (W .e .next e)) (f .above),
+        risen (W .e .key e) (W .e .key (W .e .next e)) (f .above),
         s .targets e (i .low) (i .high),
       ) (target-is e (i .low) (i .high))
 
   whole : (l : EdgeLink) (next tag : ℕ) (b : Bool) → l ≡ edge.At next tag → b ≡ true → at-edge l false (λ x t. b) ≡ true
   whole l next tag b q t = rw (q, t)
 
-  its-edges : (asks : Asks) → (asks ≡ sweep → Untried W) → (x : ℕ) → Among x (live-vertices C) → edges-sound asks C x ≡ true
-  its-edges asks n x i =
-      let l = live-v C W s g x i in
+  its-edges : (asks : Asks) → (asks ≡ sweep → Untried W) → (x : ℕ) → Stands (W .v) x → edges-sound asks C x ≡ true
+  its-edges asks n x l =
       whole (first-link C x) (W .e .first x) plain (every (edge-sound asks C) (edges-of C x)) (s .firsts x (l .low) (l .high))
-      (every-is (edge-sound asks C) (edges-of C x) (λ e m. one-edge asks n x e (listed-in C W s g x (l .low) (l .high) e m)))
+      (all-every (edge-sound asks C) (edges-of C x) (all-each (InList (W .e) x) _ (one-edge asks n x) (edges-of C x) (listed-in C W s g x (l .low) (l .high))))
 
   -- ---- how many live edges
 
@@ -99,32 +93,32 @@ module _ (C : Catalogue) (W : World) (s : Shows C W) (g : WGood W) where
   live-edges = gather (live-edges-of C) (live-vertices C)
 
   few : length live-edges ≤ 2047
-  few = let l = pigeonhole 2048 (0 ∷ live-edges) (away, gather-distinct (W .e .owner) (live-edges-of C) (live-vertices C) apart each owned) below in omega arith
+  few =
+      pigeons 1 2047 live-edges (distinct-gather (W .e .owner) (live-edges-of C) (live-vertices C) apart (each _ own-apart) (each _ owned))
+      (all-gather _ (live-edges-of C) (live-vertices C) (each _ within-pool))
     where
-      in-one : (e : ℕ) → Among e live-edges → (u : ℕ) × InList (W .e) u e
-      in-one e m = let z = from-gathered (live-edges-of C) (live-vertices C) e m in (z .0, live-e C W s g (z .0) e (live-v C W s g (z .0) (z .1)) (z .2) .listed)
-
-      away : Among 0 live-edges → ⊥
-      away m = omega (arith, in-one 0 m .1 .low)
-
-      below : (e : ℕ) → Among e (0 ∷ live-edges) → e < 2048
-      below e (inl q) = omega arith
-      below e (inr m) = omega (arith, in-one e m .1 .high, s .edges, s .edges-fit)
+      -- what holds of the list of every live vertex
+      each : (P : ℕ → Type 0) → ((x : ℕ) → Stands (W .v) x → P x) → All P (live-vertices C)
+      each P f = all-each (Stands (W .v)) P f (live-vertices C) (live-v C W s g)
 
       apart : Distinct (live-vertices C)
-      apart = keep-distinct (unmarked C) (vertices C) (distinct-v C W s g)
+      apart = distinct-keep (unmarked C) (vertices C) (distinct-v C W s g)
 
-      each : (x : ℕ) → Among x (live-vertices C) → Distinct (live-edges-of C x)
-      each x i = let l = live-v C W s g x i in keep-distinct (is-live C) (edges-of C x) (distinct-e C W s g x (l .low) (l .high))
+      own-apart : (x : ℕ) → Stands (W .v) x → Distinct (live-edges-of C x)
+      own-apart x l = distinct-keep (is-live C) (edges-of C x) (distinct-e C W s g x (l .low) (l .high))
 
-      owned : (x e : ℕ) → Among x (live-vertices C) → Among e (live-edges-of C x) → W .e .owner e ≡ x
-      owned x e i m = live-e C W s g x e (live-v C W s g x i) m .listed .own
+      owned : (x : ℕ) → Stands (W .v) x → All (λ e. W .e .owner e ≡ x) (live-edges-of C x)
+      owned x l = all-each (LiveIn W x) _ (λ e i. i .listed .own) (live-edges-of C x) (live-e C W s g x l)
+
+      within-pool : (x : ℕ) → Stands (W .v) x → All (λ e. (1 ≤ e) × (e < 1 + 2047)) (live-edges-of C x)
+      within-pool x l =
+          all-each (LiveIn W x) _ (λ e i. (i .listed .low, omega (arith, i .listed .high, s .edges, s .edges-fit))) (live-edges-of C x) (live-e C W s g x l)
 
   pub rest-sound : (asks : Asks) → (asks ≡ sweep → Untried W) → sound asks C ≡ true
   unfolding sound
   rest-sound asks n =
       rw (
         head-sound,
-        every-is (vertex-sound C) (0 ∷ vertices C) on-walk,
-        every-is (edges-sound asks C) (live-vertices C) (its-edges asks n),
+        all-every (vertex-sound C) (0 ∷ vertices C) on-walk,
+        all-every (edges-sound asks C) (live-vertices C) (all-each (Stands (W .v)) _ (its-edges asks n) (live-vertices C) (live-v C W s g)),
       ) (le-leb (length live-edges) 2047 few)

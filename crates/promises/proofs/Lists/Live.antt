@@ -1,72 +1,116 @@
--- The live graph of a catalogue that shows a good world is that world's graph, and has no loop. Assumes nothing.
-use mathlib.Core.Bool.{Bool, true, false}
+-- The live graph of a catalogue that shows a good world, as a listing prints it, is that world's graph, and has no loop. Assumes nothing.
+use Prim.Native.Nat.{ℕ}
+use mathlib.Core.Bool.{true}
 use mathlib.Core.List.{List, [], _∷_}
-use mathlib.Core.Path.{_≡_, refl, sym, ap₂, _∙_}
+use mathlib.Core.Path.{_≡_, refl, sym, _∙_}
 use lib.IntN.{ℤ}
-use Rattle.catalogue.specs.Tests.{pick, eqZ}
-use Rattle.catalogue.specs.Catalogue.{Catalogue}
+use Rattle.catalogue.specs.Tests.{member}
+use Rattle.catalogue.specs.Catalogue.{Catalogue, vertex-key, edge-key}
+use Rattle.catalogue.specs.Live.{live-vertices, live-edges-of}
 use Rattle.catalogue.specs.Listing.{vertex-lines, edge-lines}
-use Rattle.catalogue.proofs.Picks.{both-true, clash}
-use Rattle.catalogue.proofs.Rules.{eqZ-refl, eqZ-eq}
+use Rattle.catalogue.proofs.Members.{All, all-each, all-map, map-all, all-gather, gather-all, all-of}
+use Rattle.resting.specs.Lines.{lines-of}
 use Rattle.row.specs.Tests.{bool-iff}
+use Rattle.row.specs.Lists.Store.{Stands}
 use Rattle.row.specs.Machine.Vertices
 use Rattle.row.specs.Machine.World.{World, edges}
+use Rattle.row.specs.Graphs.LiveSet.{present-yes, yes-present}
 use Rattle.row.specs.Graphs.Good.{WGood}
+use Rattle.row.specs.Graphs.Graph.{edge-yes, yes-edge}
 use Rattle.row.specs.Graphs.Loops.{end, via, loopless}
 use Rattle.row.specs.Graphs.Loops
-use Rattle.promises.specs.Graphs.{same-line, printed, live, Walk, here, over}
+use Rattle.promises.specs.Graphs.{printed, live, Walk, here, over}
 use Rattle.promises.proofs.Showing.Shows.{Shows}
-use Rattle.promises.proofs.Lists.Chains.{Listed, later}
-use Rattle.promises.proofs.Lists.Chains
-use Rattle.promises.proofs.Lists.Printed.{vertex-read, vertex-printed, reading}
-use Rattle.promises.proofs.Lists.Printed
+use Rattle.promises.proofs.Lists.Lines.{of-printed, all-printed}
+use Rattle.promises.proofs.Lists.Meets.{LiveIn, live-v, v-live, live-e, e-live}
 
--- ---- a line that is printed is listed, and the other way round
-
-same-is : (k l : List ℤ) → same-line k l ≡ true → k ≡ l
-unfolding same-line
-same-is [] [] e = refl
-same-is [] (l ∷ ls) e = clash (cc)
-same-is (k ∷ ks) [] e = clash (cc)
-same-is (k ∷ ks) (l ∷ ls) e =
-    let z = both-true (eqZ k l) (same-line ks ls) e in
-    ap₂ (λ (a : ℤ) (b : List ℤ). a ∷ b) (eqZ-eq k l (z .0)) (same-is ks ls (z .1))
-
-same-self : (l : List ℤ) → same-line l l ≡ true
-unfolding same-line
-same-self [] = refl
-same-self (l ∷ ls) = rw (eqZ-refl l, same-self ls)
-
-listed-first : (l m : List ℤ) (ls : List (List ℤ)) (b : Bool) → same-line l m ≡ b → pick b true (printed l ls) ≡ true → (printed l ls ≡ true → Listed l ls) → Listed l (m ∷ ls)
-listed-first l m ls true e q f = rw (same-is l m e) Chains.here
-listed-first l m ls false e q f = later (f q)
-
-pub listed-of : (l : List ℤ) (ls : List (List ℤ)) → printed l ls ≡ true → Listed l ls
-unfolding printed
-listed-of l [] e = clash (cc)
-listed-of l (m ∷ ls) e = listed-first l m ls (same-line l m) refl e (listed-of l ls)
-
-pub printed-of : {l : List ℤ} {ls : List (List ℤ)} → Listed l ls → printed l ls ≡ true
-unfolding printed
-printed-of {l} Chains.here = rw (same-self l)
-printed-of {l} (later {m} {ls} i) = by (same-line l m) (printed-of i)
-  where
-    by : (b : Bool) → printed l ls ≡ true → pick b true (printed l ls) ≡ true
-    by true q = refl
-    by false q = q
+-- a live edge in the list of a live vertex has its line
+pub edge-line-printed : (C : Catalogue) (x e : ℕ) → member x (live-vertices C) ≡ true → member e (live-edges-of C x) ≡ true
+    → live C .derived (vertex-key C x) (edge-key C e) ≡ true
+edge-line-printed C x e m n =
+    all-of (λ e. printed (vertex-key C x ∷ edge-key C e ∷ []) (edge-lines C) ≡ true) (live-edges-of C x)
+    (map-all (λ m. printed m (edge-lines C) ≡ true) (λ e. vertex-key C x ∷ edge-key C e ∷ []) (live-edges-of C x)
+    (all-of (λ x. All (λ m. printed m (edge-lines C) ≡ true) (lines-of C x)) (live-vertices C)
+    (gather-all (λ m. printed m (edge-lines C) ≡ true) (lines-of C) (live-vertices C) (all-printed (edge-lines C))) x m))
+    e n
 
 module _ (C : Catalogue) (W : World) (s : Shows C W) (g : WGood W) where
+  vkey : (x : ℕ) → Stands (W .v) x → vertex-key C x ≡ W .v .key x
+  vkey x l = s .vkeys x (l .high)
+
+  ekey : {u : ℕ} (e : ℕ) → LiveIn W u e → edge-key C e ≡ W .e .key e
+  ekey e i = s .ekeys e (i .listed .high)
+
+  -- ---- vertices
+
+  abbrev vertex-line : ℕ → List ℤ
+  vertex-line x = vertex-key C x ∷ []
+
+  vertex-read : (k : ℤ) → live C .series k ≡ true → Vertices.live (W .v) k ≡ true
+  vertex-read k e =
+      of-printed (λ m. (k : ℤ) → m ≡ k ∷ [] → Vertices.live (W .v) k ≡ true) (vertex-lines C)
+      (all-map _ vertex-line (live-vertices C) (all-each (Stands (W .v)) _ (λ x l k q.
+      present-yes {C = W .v} (record { node = x; low = l .low; high = l .high; plain = l .plain; holds = sym (vkey x l) ∙ cc }))
+      (live-vertices C) (live-v C W s g)))
+      (k ∷ []) e k refl
+
+  vertex-printed : (k : ℤ) → Vertices.live (W .v) k ≡ true → live C .series k ≡ true
+  vertex-printed k e =
+      let p = yes-present (W .v) k e in
+      let l : Stands (W .v) (p .node) = record { low = p .low; high = p .high; plain = p .plain } in
+      let m = all-of (λ x. printed (vertex-line x) (vertex-lines C) ≡ true) (live-vertices C)
+      (map-all (λ m. printed m (vertex-lines C) ≡ true) vertex-line (live-vertices C) (all-printed (vertex-lines C))) (p .node) (v-live C W s g (p .node) l) in
+      rw (vkey (p .node) l ∙ p .holds) at m
+
   pub series-is : (k : ℤ) → live C .series k ≡ Vertices.live (W .v) k
-  series-is k =
-      bool-iff (live C .series k) (Vertices.live (W .v) k)
-      (λ e. vertex-read C W s g k (listed-of (k ∷ []) (vertex-lines C) e)) (λ e. printed-of (vertex-printed C W s g k e))
+  series-is k = bool-iff (live C .series k) (Vertices.live (W .v) k) (vertex-read k) (vertex-printed k)
+
+  -- ---- edges
+
+  abbrev edge-line : ℕ → ℕ → List ℤ
+  edge-line x e = vertex-key C x ∷ edge-key C e ∷ []
+
+  of-edge : (u e : ℕ) → Stands (W .v) u → LiveIn W u e → (k l : ℤ) → edge-line u e ≡ k ∷ l ∷ [] → edges W k l ≡ true
+  of-edge u e v i k l q =
+      let o = i .listed .own in
+      edge-yes W k l (record {
+        node = e;
+        low = i .listed .low;
+        high = i .listed .high;
+        is = i .is;
+        source = rw o (v .plain);
+        goal = i .goal;
+        leaves = rw o (sym (vkey u v) ∙ cc);
+        comes = sym (ekey e i) ∙ cc;
+      })
+
+  edge-read : (k l : ℤ) → live C .derived k l ≡ true → edges W k l ≡ true
+  edge-read k l t =
+      of-printed Edge (edge-lines C)
+      (all-gather Edge (lines-of C) (live-vertices C) (all-each (Stands (W .v)) (λ u. All Edge (lines-of C u))
+      (λ u v. all-map Edge (edge-line u) (live-edges-of C u) (all-each (LiveIn W u) (λ e. Edge (edge-line u e)) (λ e i. of-edge u e v i) (live-edges-of C u) (live-e C W s g u v)))
+      (live-vertices C) (live-v C W s g)))
+      (k ∷ l ∷ []) t k l refl
+    where
+      Edge : List ℤ → Type 0
+      Edge m = (k l : ℤ) → m ≡ k ∷ l ∷ [] → edges W k l ≡ true
+
+  edge-printed : (k l : ℤ) → edges W k l ≡ true → live C .derived k l ≡ true
+  edge-printed k l t =
+      let p = yes-edge W k l t in
+      let w = g .ends (p .node) (p .low) (p .high) in
+      let u = W .e .owner (p .node) in
+      let v : Stands (W .v) u = record { low = w .source-low; high = w .source-high; plain = p .source } in
+      let e : LiveIn W u (p .node) = record { listed = record { low = p .low; high = p .high; own = refl }; is = p .is; goal = p .goal } in
+      rw (vkey u v ∙ p .leaves, ekey (p .node) e ∙ p .comes) at
+      (edge-line-printed C u (p .node) (v-live C W s g u v) (e-live C W s g u (p .node) v e))
 
   pub derived-is : (k l : ℤ) → live C .derived k l ≡ edges W k l
-  derived-is k l =
-      bool-iff (live C .derived k l) (edges W k l)
-      (λ e. reading C W s g k l (listed-of (k ∷ l ∷ []) (edge-lines C) e)) (λ e. printed-of (Printed.printed C W s g k l e))
+  derived-is k l = bool-iff (live C .derived k l) (edges W k l) (edge-read k l) (edge-printed k l)
 
-  pub walk-is : {to from : ℤ} → Walk (live C) to from → Loops.Walk (edges W) to from
+  -- ---- no loop
+
+  walk-is : {to from : ℤ} → Walk (live C) to from → Loops.Walk (edges W) to from
   walk-is here = end refl
   walk-is (over {from} next e w) = via next (sym (derived-is from next) ∙ e) (walk-is w)
 

@@ -6,11 +6,13 @@ use mathlib.Core.Path.{_≡_, refl, sym, ap, _∙_}
 use native.Mathlib.Omega.{arith}
 use lib.Dec.{eqb}
 use lib.Signed.{_<ℤ_, <ℤ-irrefl}
-use Rattle.catalogue.specs.Tests.{pick}
+use Rattle.catalogue.specs.Tests.{pick, member}
 use Rattle.catalogue.specs.Catalogue.{Catalogue}
 use Rattle.catalogue.specs.Live.{walk, next-vertex, first-edge, next-edge, vertices, edges-of, unmarked, is-live, live-vertices, live-edges-of}
 use Rattle.catalogue.proofs.Picks.{clash}
-use Rattle.row.specs.Base.{<ℤ-trans}
+use Rattle.catalogue.proofs.Members.{All, all-each, all-join, all-keep, map-all, member-keep}
+use Rattle.catalogue.proofs.Distinct.{Distinct}
+use Rattle.catalogue.proofs.Walks.{walk-above, walk-same}
 use Rattle.row.specs.Lists.Links.{Run, stop, go, run-tail, run-fold}
 use Rattle.row.specs.Tests.{and-true, not-true}
 use Rattle.row.specs.Lists.Store.{view, Stands}
@@ -19,8 +21,8 @@ use Rattle.row.specs.Machine.World.{World, is-added}
 use Rattle.row.specs.Graphs.Good.{WGood}
 use Rattle.row.specs.Graphs.Graph.{added-is, added-plain}
 use Rattle.promises.proofs.Showing.Shows.{Shows, Series, vertex-tag-of, edge-tag-of}
-use Rattle.promises.proofs.Lists.Members.{Among, Distinct, kept, from-kept}
-use Rattle.promises.proofs.Lists.Walked.{On, walk-on, walk-distinct, walk-meets, walk-same}
+use Rattle.promises.proofs.Showing.Tail.{no-tail}
+use Rattle.promises.proofs.Lists.Walked.{walk-mine, walk-climbs, walk-distinct, walk-meets}
 
 -- an added edge in the list of u, with an unmarked target
 pub record LiveIn (W : World) (u e : ℕ) : Type 0 where
@@ -51,19 +53,15 @@ module _ (C : Catalogue) (W : World) (s : Shows C W) (g : WGood W) where
   start-v = rises-v 0 some-v (λ e. omega arith)
 
   -- on the vertex walk: handed out
-  pub met-v : (x : ℕ) → Among x (vertices C) → Series (W .v .used) x
-  met-v x i =
-      let o = walk-on (next-vertex C) 1 (W .v .key) (λ y. y < W .v .used) rises-v 256 (next-vertex C 0) x (start-v .0) i in
-      let d : x ≡ 0 → ⊥ = not-head o in
-      let n = o .inner in
-      record { low = omega arith; high = o .inside }
-    where
-      not-head : On (next-vertex C) 1 (W .v .key) (λ y. y < W .v .used) rises-v (next-vertex C 0) x → x ≡ 0 → ⊥
-      not-head o q =
-          <ℤ-irrefl {a = W .v .key 0} (elim (o .above) [
-            | inl e ↦ rw (e ∙ q) at (start-v .1)
-            | inr l ↦ <ℤ-trans (start-v .1) (rw q at l)
-          ])
+  pub met-v : All (Series (W .v .used)) (vertices C)
+  met-v =
+      all-each (λ x. ((x < W .v .used) × (x ≡ 1 → ⊥)) × (W .v .key 0 <ℤ W .v .key x)) (Series (W .v .used))
+      (λ x p. let n = p .0 .1 in let d : x ≡ 0 → ⊥ = λ q. <ℤ-irrefl {a = W .v .key 0} (rw q at (p .1)) in record { low = omega arith; high = p .0 .0 }) (vertices C)
+      (all-join (λ x. (x < W .v .used) × (x ≡ 1 → ⊥)) (λ x. W .v .key 0 <ℤ W .v .key x) (vertices C)
+      (walk-mine (next-vertex C) 1 (W .v .key) (λ y. y < W .v .used) rises-v 256 (next-vertex C 0) (start-v .0))
+      (map-all (λ k. W .v .key 0 <ℤ k) (W .v .key) (vertices C)
+      (walk-above (next-vertex C) 1 (W .v .key) 256 (next-vertex C 0)
+      (walk-climbs (next-vertex C) 1 (W .v .key) (λ y. y < W .v .used) rises-v 256 (next-vertex C 0) (start-v .0)) (W .v .key 0) (start-v .1))))
 
   pub distinct-v : Distinct (vertices C)
   distinct-v = walk-distinct (next-vertex C) 1 (W .v .key) (λ y. y < W .v .used) rises-v 256 (next-vertex C 0) (start-v .0)
@@ -73,21 +71,23 @@ module _ (C : Catalogue) (W : World) (s : Shows C W) (g : WGood W) where
       run-fold 0 1 (view (W .v)) (g .good .sound .sorted) (next-vertex C) x (λ a m d r. go d (rw (next-v a m d) r)) some-v
       (g .good .sound .sorted .linked x (l .high) (l .plain))
 
-  pub meets-v : (x : ℕ) → Stands (W .v) x → Among x (vertices C)
+  pub meets-v : (x : ℕ) → Stands (W .v) x → member x (vertices C) ≡ true
   meets-v x l =
       let a = l .low in
-      walk-meets (next-vertex C) 1 (W .v .key) (λ y. y < W .v .used) rises-v 256 (λ y h. omega (arith, s .vertices, s .vertices-fit)) (omega arith)
-      (next-vertex C 0) x (start-v .0) (run-tail (λ e. omega arith) (run-v x l)) (λ e. omega arith)
+      walk-meets (next-vertex C) 1 (W .v .key) (λ y. y < W .v .used) rises-v 256 (next-vertex C 0) (start-v .0)
+      (λ y h. omega (arith, s .vertices, s .vertices-fit)) (omega arith) x (run-tail (λ e. omega arith) (run-v x l)) (λ e. omega arith)
 
-  pub live-v : (x : ℕ) → Among x (live-vertices C) → Stands (W .v) x
-  live-v x i =
-      let z = from-kept (unmarked C) (vertices C) x i in
-      let m = met-v x (z .0) in
+  pub live-v : All (Stands (W .v)) (live-vertices C)
+  live-v =
+      all-each (λ x. Series (W .v .used) x × (unmarked C x ≡ true)) (Stands (W .v))
+      (λ x z.
+      let m = z .0 in
       let a = m .low in
-      record { low = a; high = m .high; plain = not-true (W .v .marked x) (sym (mark-v x (m .high) (λ e. omega arith)) ∙ z .1) }
+      record { low = a; high = m .high; plain = not-true (W .v .marked x) (sym (mark-v x (m .high) (λ e. omega arith)) ∙ z .1) })
+      (live-vertices C) (all-keep (Series (W .v .used)) (unmarked C) (vertices C) met-v)
 
-  pub v-live : (x : ℕ) → Stands (W .v) x → Among x (live-vertices C)
-  v-live x l = let a = l .low in kept (unmarked C) (vertices C) x (meets-v x l) (mark-v x (l .high) (λ e. omega arith) ∙ ap not (l .plain))
+  pub v-live : (x : ℕ) → Stands (W .v) x → member x (live-vertices C) ≡ true
+  v-live x l = let a = l .low in member-keep (unmarked C) x (vertices C) (meets-v x l) (mark-v x (l .high) (λ e. omega arith) ∙ ap not (l .plain))
 
   -- ---- the edges of a vertex
 
@@ -95,12 +95,8 @@ module _ (C : Catalogue) (W : World) (s : Shows C W) (g : WGood W) where
     abbrev Own : ℕ → Type 0
     Own e = Mine (W .e) u (at e)
 
-    in-list : (e : ℕ) → Own e → (e ≡ 0 → ⊥) → InList (W .e) u e
-    in-list e (inl z) d = absurd (d z)
-    in-list e (inr i) d = i
-
     next-e : (e : ℕ) → Own e → (e ≡ 0 → ⊥) → next-edge C e ≡ W .e .next e
-    next-e e m d = let i = in-list e m d in rw (s .elinks e (i .low) (i .high))
+    next-e e m d = let i = no-tail (W .e) u e m d in rw (s .elinks e (i .low) (i .high))
 
     rises-e : (e : ℕ) → Own e → (e ≡ 0 → ⊥) → Own (next-edge C e) × (W .e .key e <ℤ W .e .key (next-edge C e))
     rises-e e m d = let f = g .esound .sorted u .follows (at e) m (λ q. d (cc)) in rw (next-e e m d) (f .inside, f .above)
@@ -117,10 +113,10 @@ module _ (C : Catalogue) (W : World) (s : Shows C W) (g : WGood W) where
         walk-same (next-edge C) (W .e .next) 0 Own (λ e m d. (rises-e e m d .0, next-e e m d)) 2048 (first-edge C u) start-e
         ∙ ap (walk (W .e .next) 0 2048) first-is
 
-    pub listed-in : (e : ℕ) → Among e (edges-of C u) → InList (W .e) u e
-    listed-in e i =
-        let o = walk-on (next-edge C) 0 (W .e .key) Own rises-e 2048 (first-edge C u) e start-e i in
-        in-list e (o .inside) (o .inner)
+    pub listed-in : All (InList (W .e) u) (edges-of C u)
+    listed-in =
+        all-each (λ e. Own e × (e ≡ 0 → ⊥)) (InList (W .e) u) (λ e p. no-tail (W .e) u e (p .0) (p .1)) (edges-of C u)
+        (walk-mine (next-edge C) 0 (W .e .key) Own rises-e 2048 (first-edge C u) start-e)
 
     pub distinct-e : Distinct (edges-of C u)
     distinct-e = walk-distinct (next-edge C) 0 (W .e .key) Own rises-e 2048 (first-edge C u) start-e
@@ -131,11 +127,11 @@ module _ (C : Catalogue) (W : World) (s : Shows C W) (g : WGood W) where
         let n : c ≡ 0 → ⊥ = λ q. d (ap at q) in
         go n (rw (next-e c m n) (run-e (W .e .next c) e (g .esound .sorted u .follows (at c) m d .inside) r))
 
-    pub meets-e : (e : ℕ) → InList (W .e) u e → is-marked (W .e .tag e) ≡ false → Among e (edges-of C u)
+    pub meets-e : (e : ℕ) → InList (W .e) u e → is-marked (W .e .tag e) ≡ false → member e (edges-of C u) ≡ true
     meets-e e i t =
         let a = i .low in
         let r = run-tail (λ q. clash (cc)) (g .esound .sorted u .linked (at e) (inr i) t) in
-        walk-meets (next-edge C) 0 (W .e .key) Own rises-e 2048 below (omega arith) (first-edge C u) e start-e
+        walk-meets (next-edge C) 0 (W .e .key) Own rises-e 2048 (first-edge C u) start-e below (omega arith) e
         (rw first-is (run-e (W .e .first u) e (rw first-is at start-e) r)) (λ q. omega arith)
       where
         below : (x : ℕ) → Own x → x < 2048
@@ -153,15 +149,17 @@ module _ (C : Catalogue) (W : World) (s : Shows C W) (g : WGood W) where
       by transit = refl
       by added = refl
 
-  pub live-e : (u e : ℕ) → Stands (W .v) u → Among e (live-edges-of C u) → LiveIn W u e
-  live-e u e l i =
-      let z = from-kept (is-live C) (edges-of C u) e i in
-      let j = listed-in u (l .low) (l .high) e (z .0) in
+  pub live-e : (u : ℕ) → Stands (W .v) u → All (LiveIn W u) (live-edges-of C u)
+  live-e u l =
+      all-each (λ e. InList (W .e) u e × (is-live C e ≡ true)) (LiveIn W u)
+      (λ e z.
+      let j = z .0 in
       let b = and-true (is-added (W .e .tag e)) (not (W .v .marked (W .e .target e))) (sym (live-is e (j .low) (j .high)) ∙ z .1) in
-      record { listed = j; is = added-is (W .e .tag e) (b .0); goal = not-true (W .v .marked (W .e .target e)) (b .1) }
+      record { listed = j; is = added-is (W .e .tag e) (b .0); goal = not-true (W .v .marked (W .e .target e)) (b .1) })
+      (live-edges-of C u) (all-keep (InList (W .e) u) (is-live C) (edges-of C u) (listed-in u (l .low) (l .high)))
 
-  pub e-live : (u e : ℕ) → Stands (W .v) u → LiveIn W u e → Among e (live-edges-of C u)
+  pub e-live : (u e : ℕ) → Stands (W .v) u → LiveIn W u e → member e (live-edges-of C u) ≡ true
   e-live u e l i =
       let j = i .listed in
-      kept (is-live C) (edges-of C u) e (meets-e u (l .low) (l .high) e j (added-plain (W .e .tag e) (i .is)))
+      member-keep (is-live C) e (edges-of C u) (meets-e u (l .low) (l .high) e j (added-plain (W .e .tag e) (i .is)))
       (live-is e (j .low) (j .high) ∙ rw (i .is, i .goal))

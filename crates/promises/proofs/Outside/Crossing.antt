@@ -18,7 +18,6 @@ use Rattle.promises.specs.Moments.{place-of}
 use Rattle.promises.specs.Outside.{open-at}
 use Rattle.promises.proofs.Showing.Shows.{Series, edge-tag-of, trial-place}
 use Rattle.promises.proofs.Showing.Tail.{no-tail}
-use Rattle.promises.proofs.Lists.Members.{member-is}
 use Rattle.promises.proofs.Lists.Meets.{meets-e}
 use Rattle.promises.proofs.Runs.Held.{Held}
 use Rattle.promises.proofs.Outside.Spots.{trying-spot}
@@ -55,5 +54,4 @@ module _ (workers : ℕ) (m : Moment) (X : Conf) (h : Held workers m X) where
       let s = o .series in
       let i = o .listed in
       let t : edge-tag-of (W .e .tag c) ≡ tag = (let z = h .shows .elinks c (i .low) (i .high) in cc) in
-      member-is c (edges-of (m .catalogue) x)
-      (meets-e (m .catalogue) W (h .shows) (h .fine .good) x (s .low) (s .high) c i (plain-tag (W .e .tag c) (λ z. n (sym t ∙ z))))
+      meets-e (m .catalogue) W (h .shows) (h .fine .good) x (s .low) (s .high) c i (plain-tag (W .e .tag c) (λ z. n (sym t ∙ z)))

@@ -9,7 +9,7 @@ use native.Mathlib.Omega.{arith}
 use lib.IntN.{ℤ}
 use lib.ListN.{length}
 use Rattle.catalogue.specs.Catalogue.{Catalogue, edge-link-in, edge-link}
-use Rattle.catalogue.specs.Live.{unmarked, live-vertices, live-edges-of}
+use Rattle.catalogue.specs.Live.{unmarked}
 use Rattle.catalogue.specs.Runs.{Choice, Moment}
 use Rattle.catalogue.specs.declared.links.EdgeLink.the-variants as edge
 use Rattle.catalogue.specs.declared.links.Target.the-variants as target
@@ -25,26 +25,21 @@ use Rattle.row.specs.Graphs.Graph.{edge-yes}
 use Rattle.row.specs.Graphs.Older.{LiveE}
 use Rattle.row.specs.Steps.Spots.{own}
 use Rattle.promises.specs.Moments.{Given, moment}
-use Rattle.promises.specs.Graphs.{Graph, Walk, here, over}
+use Rattle.promises.specs.Graphs.{Walk, here, over}
 use Rattle.promises.specs.Graphs
 use Rattle.promises.specs.Outside.{Lasts, Lives, Crosses, Crossed, cross, Undisturbed}
 use Rattle.promises.specs.Outside
 use Rattle.promises.specs.Promises.{CycleAlone}
 use Rattle.promises.proofs.Showing.Shows.{Shows, Series, edge-tag-of}
 use Rattle.promises.proofs.Showing.Pools.{target-series}
-use Rattle.promises.proofs.Lists.Members.{member-is}
 use Rattle.promises.proofs.Lists.Meets.{mark-v, v-live, e-live}
 use Rattle.promises.proofs.Lists.Live.{derived-is}
+use Rattle.promises.proofs.Rows.Walks.{walk-on}
 use Rattle.promises.proofs.Runs.Held.{Held}
 use Rattle.promises.proofs.Outside.Run.{run}
 use Rattle.promises.proofs.Outside.Crossing.{plain-tag, open-spot}
 use Rattle.promises.proofs.Outside.Chains.{known}
 use Rattle.promises.proofs.Outside.Quiet.{own-ok, own-is, nobody-else, calm-to}
-
--- a walk with one derivation more at its end
-walk-end : {g : Graph} {a b c : ℤ} → Walk g b a → g .derived b c ≡ true → Walk g c a
-walk-end {c = c} here d = over c d here
-walk-end (over next e w) d = over next e (walk-end w d)
 
 -- the tail has no link
 no-link : (C : Catalogue) (e next tag : ℕ) → edge-link C e ≡ edge.At next tag → e ≡ 0 → ⊥
@@ -141,10 +136,8 @@ module _ (workers : ℕ) (choices : List Choice) (g : Given workers choices) (w 
       let d = good .ends f (i .low) (i .high) in
       let at-x : Store.Stands (S .v) x = rw (← z .from-x) (record { low = d .source-low; high = d .source-high; plain = i .source }) in
       record {
-        source = member-is x (live-vertices C) (v-live C S shows good x at-x);
-        listed =
-            member-is f (live-edges-of C x)
-            (e-live C S shows good x f at-x (record { listed = record { low = i .low; high = i .high; own = z .from-x }; is = z .is; goal = i .target }));
+        source = v-live C S shows good x at-x;
+        listed = e-live C S shows good x f at-x (record { listed = record { low = i .low; high = i .high; own = z .from-x }; is = z .is; goal = i .target });
         leads = shows .targets f (i .low) (i .high) ∙ ap target.At (z .to-y);
       }
 
@@ -171,7 +164,7 @@ module _ (workers : ℕ) (choices : List Choice) (g : Given workers choices) (w 
   -- from l, the key of v, to the key of whatever the chain has come to
   walk : {y : ℕ} → Crossed workers choices w k l u v e first last y → Walk (Graphs.live C) (key y) l
   walk Outside.here = rw (own-ok workers choices g w low k l u v e first o quiet first (omega arith) (o .started) .0 .goal .holds) here
-  walk (cross {x} {y} n a b r c) = walk-end (walk c) (derived (r .edge) x y (crossed n x y a b r))
+  walk (cross {x} {y} n a b r c) = walk-on (walk c) (over (key y) (derived (r .edge) x y (crossed n x y a b r)) here)
 
   walked : Crossed workers choices w k l u v e first last u → Walk (Graphs.live C) k l
   walked c = rw (own-ok workers choices g w low k l u v e first o quiet first (omega arith) (o .started) .0 .source .holds) at (walk c)

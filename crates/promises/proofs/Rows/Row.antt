@@ -24,7 +24,7 @@ use Rattle.promises.specs.Moments.{moment, chosen}
 use Rattle.promises.specs.Graphs.{live}
 use Rattle.promises.specs.Alone.{Ask, Alone}
 use Rattle.promises.specs.Histories.{since, begun, answered-by, answered, history, in-row}
-use Rattle.promises.specs.Promises.{OneRow}
+use Rattle.promises.specs.Promises.{OneRow, LiveKept}
 use Rattle.promises.proofs.Lists.Live.{series-is, derived-is}
 use Rattle.promises.proofs.Runs.Telling.{asked-of, taken-of, begun-of, call-of, answered-of, graph-of, said-by}
 use Rattle.promises.proofs.Runs.Schedule.{Run, run}
@@ -115,3 +115,13 @@ module _ (workers : ℕ) (choices : List Choice) (r : Run workers choices) where
 
 pub one-row : OneRow
 one-row workers choices g = assemble _ _ _ Alone in-row (history workers choices) (event workers choices (run workers choices g)) (length choices)
+
+-- what answers no call of the row is quiet, or only looks
+kept : {workers : ℕ} {choices : List Choice} {j : ℕ} → Event Alone in-row (history workers choices) j
+    → ((c : Call Ask ℕ) → answered workers choices (suc j) ≡ some c → in-row c ≡ false) → history workers choices .live (suc j) ≡ history workers choices .live j
+kept (quiet q e) f = e
+kept (acts c a b i d) f = clash (cc (f c a))
+kept (looks c a b e t i u d) f = e
+
+pub live-kept : LiveKept
+live-kept workers choices g n f = kept {workers = workers} {choices = choices} (event workers choices (run workers choices g) n) f

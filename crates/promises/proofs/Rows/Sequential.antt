@@ -5,6 +5,7 @@ use mathlib.Core.Path.{_≡_, refl, sym, ap, ap₂, _∙_, subst, fun-ext}
 use lib.IntN.{ℤ}
 use Rattle.catalogue.specs.Tests.{pick, eqZ}
 use Rattle.catalogue.proofs.Rules.{eqZ-refl}
+use Rattle.row.specs.Tests.{cond-or}
 use Rattle.row.specs.Machine.Vertices.{addV, remV, conV, put}
 use Rattle.row.specs.Machine.World.{vert, addE, remE, conE, put-edge, between, alone}
 use Rattle.row.specs.Machine.World
@@ -72,13 +73,9 @@ module _ (g : World.Graph) (ends : Ended g) where
 
 -- ---- a pair that is put closes no loop, for there is none after it
 
-put-keeps : (b t : Bool) → t ≡ true → cond b true t ≡ true
-put-keeps true t e = refl
-put-keeps false t e = e
-
 walk-put : (g : World.Graph) (k l : ℤ) {to from : ℤ} → Walk (graph-of g) to from → Loops.Walk (put-edge (g .e) k l true) to from
 walk-put g k l here = end refl
-walk-put g k l (over {from} next e w) = via next (put-keeps (eqZ from k && eqZ next l) (g .e from next) e) (walk-put g k l w)
+walk-put g k l (over {from} next e w) = via next (cond-or (eqZ from k && eqZ next l) (g .e from next) e) (walk-put g k l w)
 
 closes-none : (g : World.Graph) (k l : ℤ) → Loopless (record { v = g .v; e = put-edge (g .e) k l true }) → Walk (graph-of g) k l → ⊥
 closes-none g k l n w = n k l (rw (eqZ-refl k, eqZ-refl l) refl) (walk-put g k l w)

@@ -22,7 +22,7 @@ walk-up : {g h : Graph} → Kept g h → {to from : ℤ} → Walk g to from → 
 walk-up f here = here
 walk-up f (over {from} next e w) = over next (f from next e) (walk-up f w)
 
-walk-on : {g : Graph} {to by from : ℤ} → Walk g by from → Walk g to by → Walk g to from
+pub walk-on : {g : Graph} {to by from : ℤ} → Walk g by from → Walk g to by → Walk g to from
 walk-on here v = v
 walk-on (over next e w) v = over next e (walk-on w v)
 

@@ -15,21 +15,17 @@ use Rattle.catalogue.specs.Numbers.{least, greatest, most-workers}
 use Rattle.catalogue.specs.Steps.Places.{code-known, one-key}
 use Rattle.catalogue.specs.Script.{Script, Read, bad, good, and-then, Header, header-fits, header-of, read-header, key-fits, request-from, request-of-words, read-request, natural, signed, all-of, words, unsnoc, read-line, next-line, read-requests, read-schedule, ended, read-lines, read-script, script-limit, sum}
 use Rattle.catalogue.specs.declared.workers.Request.{Request}
-use Rattle.catalogue.proofs.Picks.{both-true, clash}
+use Rattle.catalogue.proofs.Picks.{both-true, clash, pick-some}
 use Rattle.row.specs.Base.{<ℤ-trans, ltZ-true}
 use Rattle.promises.specs.Moments.{All, none, each, Key}
 use Rattle.promises.specs.Promises.{ScriptsPlayed}
-use Rattle.promises.proofs.Runs.Scripts.{Fitting, script-choices, run-is, run-keyed}
+use Rattle.promises.proofs.Runs.Scripts.{Fitting, script-choices, run-is, run-replies, run-keyed}
 
 -- ---- what was given, was found, was read
 
 given-some : {A B : Type 0} (o : Option A) (f : A → Option B) (b : B) → given o none f ≡ some b → (a : A) × (o ≡ some a) × (f a ≡ some b)
 given-some none f b e = clash (cc)
 given-some (some a) f b e = (a, refl, e)
-
-pick-some : {A : Type 0} (t : Bool) (o : Option A) (a : A) → pick t o none ≡ some a → (t ≡ true) × (o ≡ some a)
-pick-some true o a e = (refl, e)
-pick-some false o a e = clash (cc)
 
 then-good : {A B : Type 0} (r : Read A) (f : A → Read B) (b : B) → and-then r f ≡ good b → (a : A) × (r ≡ good a) × (f a ≡ good b)
 then-good (bad n) f b e = clash (cc)
@@ -149,4 +145,4 @@ accepted text s e = by (leb (length text) script-limit) e
 pub scripts-played : ScriptsPlayed
 scripts-played text s e =
     let a = accepted text s e in
-    record { choices = script-choices s; given = record { most = a .few; keyed = run-keyed s (a .fitting) }; same = run-is s }
+    record { choices = script-choices s; given = record { most = a .few; keyed = run-keyed s (a .fitting) }; same = run-is s; replies = run-replies s }

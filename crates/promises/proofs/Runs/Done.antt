@@ -1,12 +1,13 @@
 -- What is shown of every call: the machine makes a choice of its own that leaves the same and answers the same. A refused call changes nothing. Assumes nothing.
 use Prim.Native.Nat.{ℕ, _≤_, _<_}
+use mathlib.Core.Bool.{true}
 use mathlib.Core.Option.{Option, none}
 use mathlib.Core.Path.{_≡_, sym, ap, _∙_}
 use mathlib.Core.Logic.{inl, inr}
 use native.Mathlib.Omega.{arith}
 use borrow.Author.Tests.{ltb-true}
 use lib.Dec.{ltb}
-use Rattle.catalogue.specs.Tests.{pick, upd}
+use Rattle.catalogue.specs.Tests.{upd}
 use Rattle.catalogue.specs.Catalogue.{Catalogue}
 use Rattle.catalogue.specs.Calls.{After, count-fits, worker-fits, refuse}
 use Rattle.catalogue.specs.Runs.{Moment}
@@ -16,7 +17,7 @@ use Rattle.catalogue.specs.declared.answers.Refusal.the-variants as refusal
 use Rattle.catalogue.specs.declared.answers.Answer.{Answer}
 use Rattle.catalogue.specs.declared.answers.Answer.the-variants as answer
 use Rattle.catalogue.specs.declared.workers.Worker.{Worker}
-use Rattle.catalogue.proofs.Picks.{pick-both, clash}
+use Rattle.catalogue.proofs.Picks.{both-true, clash}
 use Rattle.row.specs.Base.{upd-at, upd-other, same?}
 use Rattle.row.specs.Rows.Row.{Call}
 use Rattle.row.specs.Machine.World.{World, Spot, Rest}
@@ -24,7 +25,6 @@ use Rattle.row.specs.Machine.Moves.{move}
 use Rattle.row.specs.Machine.Runs.{Conf, Choice, steps, close, act}
 use Rattle.row.specs.Runs.Course.{Fine, act-fine}
 use Rattle.promises.proofs.Showing.Shows.{Shows, Shown}
-use Rattle.promises.proofs.Showing.Tests.{second}
 use Rattle.promises.specs.Alone.{Ask}
 use Rattle.promises.specs.Histories.{Begun}
 use Rattle.promises.proofs.Runs.Telling.{begun-of, answered-of, Same}
@@ -109,11 +109,7 @@ module _ (workers : ℕ) (m : Moment) (X : Conf) (h : Held workers m X) (most : 
     whole = λ e. n (cc);
   }
 
-  -- so is a call for a worker that the table does not have
-  pub in-table : (t : Tells) (v : ℕ) (a : After) → (v < workers → Done workers X t a)
-      → Done workers X t (pick (worker-fits (m .table .count) v) a (refuse (m .catalogue) (m .table) refusal.Worker))
-  unfolding worker-fits
-  in-table t v a f =
-      pick-both (Done workers X t) (worker-fits (m .table .count) v) _ _
-      (λ e. f (omega (arith, ltb-true v (m .table .count) (second (count-fits (m .table .count)) (ltb v (m .table .count)) e), h .counted)))
-      (λ e. refused t refusal.Worker (λ z. clash (cc)))
+-- a worker whom the table has
+pub in-table : {workers : ℕ} {m : Moment} {X : Conf} → Held workers m X → (v : ℕ) → worker-fits (m .table .count) v ≡ true → v < workers
+unfolding worker-fits
+in-table {m = m} h v e = omega (arith, ltb-true v (m .table .count) (both-true (count-fits (m .table .count)) (ltb v (m .table .count)) e .1), h .counted)

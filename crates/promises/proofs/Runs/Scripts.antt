@@ -1,19 +1,25 @@
 -- Playing a script is making choices: each turn of the schedule is one, or none where an idle worker has no request left. Assumes nothing.
 use Prim.Native.Nat.{ℕ, zero, suc}
 use mathlib.Core.Bool.{Bool, true, false}
-use mathlib.Core.List.{List, [], _∷_, _++_}
+use mathlib.Core.List.{List, [], _∷_, _++_, map, map-append, append-assoc, append-nil}
 use mathlib.Core.Logic.{inl, inr}
-use mathlib.Core.Path.{_≡_, refl, sym, ap, _∙_}
+use mathlib.Core.Path.{_≡_, refl, sym, ap, ap₂, _∙_}
 use lib.ListN.{length, getD, set, take, drop}
 use lib.Seq.{getD-set-same, getD-set-other, set-out}
 use Rattle.catalogue.specs.Tests.{pick}
-use Rattle.catalogue.specs.Run.{Running, shares, turn, takes-up, steps-on, play, run}
+use Rattle.catalogue.specs.Calls.{step}
+use Rattle.catalogue.specs.Listing.{Reply-line}
+use Rattle.catalogue.specs.Run.{Running, shares, with-reply, turn, takes-up, steps-on, play, run}
 use Rattle.catalogue.specs.Runs.{Choice, takes, steps, Moment, start, choose, after}
 use Rattle.catalogue.specs.Script.{Script}
 use Rattle.catalogue.specs.Workers.{busy}
+use Rattle.catalogue.specs.declared.answers.Answer.{Answer}
+use Rattle.catalogue.specs.declared.answers.Answer.the-variants as answer
 use Rattle.catalogue.specs.declared.workers.Request.{Request}
 use Rattle.row.specs.Base.{same?, lt-or}
+use Rattle.row.specs.Rows.Assemble.{all-append}
 use Rattle.promises.specs.Moments.{All, none, each, Key, Keyed, at}
+use Rattle.promises.specs.Histories.{reply-to, reply-by, replies-of}
 
 -- ---- the choices of a schedule
 
@@ -54,16 +60,51 @@ play-is r position (w ∷ ws) =
     ∙ ap (λ m. after m (choices (turn r position w) (suc position) ws)) (turn-is r position w)
     ∙ sym (after-both (moment-of r) (turned r w) (choices (turn r position w) (suc position) ws))
 
+-- ---- their replies
+
+abbrev told : Reply-line → ℕ × ℕ
+told r = (r .worker, r .reply)
+
+replies-both : (m : Moment) (xs ys : List Choice) → replies-of m (xs ++ ys) ≡ replies-of m xs ++ replies-of (after m xs) ys
+unfolding replies-of after
+replies-both m [] ys = refl
+replies-both m (x ∷ xs) ys =
+    ap (λ l. reply-by m x ++ l) (replies-both (choose m x .moment) xs ys)
+    ∙ sym (append-assoc (reply-by m x) (replies-of (choose m x .moment) xs) (replies-of (after (choose m x .moment) xs) ys))
+
+-- a reply comes behind those before it
+replied-is : (l : List Reply-line) (position w code : ℕ) (a : Answer) → map told (with-reply l position w code a) ≡ map told l ++ (reply-to w a ++ [])
+replied-is l position w code (answer.Going met) = sym (append-nil (map told l))
+replied-is l position w code (answer.Reply n) = map-append told l _
+replied-is l position w code (answer.Refused r) = sym (append-nil (map told l))
+
+turn-replies : (r : Running) (position w : ℕ) → map told (turn r position w .replies) ≡ map told (r .replies) ++ replies-of (moment-of r) (turned r w)
+unfolding replies-of
+turn-replies r position w = by (busy (r .table) w) (getD (r .left) w [])
+  where
+    by : (b : Bool) (qs : List Request) → map told (pick b (steps-on r position w) (takes-up r w qs) .replies)
+        ≡ map told (r .replies) ++ replies-of (moment-of r) (pick b (steps w ∷ []) (taking w qs))
+    by true qs = replied-is (r .replies) position w _ (step (r .catalogue) (r .table) w .answer)
+    by false [] = sym (append-nil (map told (r .replies)))
+    by false (q ∷ qs) = sym (append-nil (map told (r .replies)))
+
+play-replies : (r : Running) (position : ℕ) (ws : List ℕ) → map told (play r position ws .replies) ≡ map told (r .replies) ++ replies-of (moment-of r) (choices r position ws)
+unfolding play choices replies-of
+play-replies r position [] = sym (append-nil (map told (r .replies)))
+play-replies r position (w ∷ ws) =
+    let now : List (ℕ × ℕ) = replies-of (moment-of r) (turned r w) in
+    let then : List Choice = choices (turn r position w) (suc position) ws in
+    play-replies (turn r position w) (suc position) ws
+    ∙ ap₂ (λ (l : List (ℕ × ℕ)) (m : Moment). l ++ replies-of m then) (turn-replies r position w) (turn-is r position w)
+    ∙ append-assoc (map told (r .replies)) now (replies-of (after (moment-of r) (turned r w)) then)
+    ∙ ap (λ l. map told (r .replies) ++ l) (sym (replies-both (moment-of r) (turned r w) then))
+
 -- ---- their keys
 
 -- a request with keys of 32 bits
 pub record Fitting (q : Request) : Type 0 where
   pub first : Key (q .k)
   pub second : Key (q .l)
-
-all-both : {P : Choice → Type 0} {xs ys : List Choice} → All P xs → All P ys → All P (xs ++ ys)
-all-both none b = b
-all-both (each p a) b = each p (all-both a b)
 
 all-take : {P : Request → Type 0} (n : ℕ) {xs : List Request} → All P xs → All P (take n xs)
 all-take zero a = none
@@ -118,7 +159,7 @@ turned-fits r w l = by (busy (r .table) w)
 choices-fit : (r : Running) (position : ℕ) (ws : List ℕ) → Left (r .left) → All Keyed (choices r position ws)
 unfolding choices
 choices-fit r position [] l = none
-choices-fit r position (w ∷ ws) l = all-both (turned-fits r w l) (choices-fit (turn r position w) (suc position) ws (left-after r position w l))
+choices-fit r position (w ∷ ws) l = all-append (turned-fits r w l) (choices-fit (turn r position w) (suc position) ws (left-after r position w l))
 
 -- The whole run of a script.
 module _ (s : Script) where
@@ -136,6 +177,10 @@ module _ (s : Script) where
   pub run-is : run s .catalogue ≡ at (length (s .counts)) script-choices .catalogue
   unfolding run script-choices
   run-is = ap (λ m. m .catalogue) (play-is begins 1 (s .schedule))
+
+  pub run-replies : map told (run s .replies) ≡ replies-of (start (length (s .counts))) script-choices
+  unfolding run script-choices
+  run-replies = play-replies begins 1 (s .schedule)
 
   pub run-keyed : All Fitting (s .requests) → All Keyed script-choices
   unfolding script-choices

@@ -5,11 +5,12 @@ use mathlib.Core.Option.{Option, none, some}
 use mathlib.Core.Path.{_≡_, refl, sym, ap, _∙_, subst}
 use native.Mathlib.Omega.{arith}
 use Rattle.catalogue.specs.Catalogue.{Catalogue}
-use Rattle.catalogue.specs.Calls.{After, perform, step}
+use Rattle.catalogue.specs.Calls.{After, worker-fits, refuse, perform, step}
 use Rattle.catalogue.specs.Runs.{Moment}
 use Rattle.catalogue.specs.Workers.{worker-at, put, busy}
 use Rattle.catalogue.specs.Writes.{commit}
 use Rattle.catalogue.specs.Steps.Decide.{decide, record-after, write-of, answer-of}
+use Rattle.catalogue.specs.declared.answers.Refusal.{Refusal}
 use Rattle.catalogue.specs.declared.answers.Refusal.the-variants as refusal
 use Rattle.catalogue.specs.declared.answers.Answer.{Answer}
 use Rattle.catalogue.specs.declared.answers.Answer.the-variants as answer
@@ -21,7 +22,7 @@ use Rattle.catalogue.proofs.Picks.{pick-both, clash}
 use Rattle.row.specs.Rows.Row.{Call}
 use Rattle.row.specs.Machine.World.{World, Spot, Rest}
 use Rattle.row.specs.Machine.Moves.{move}
-use Rattle.row.specs.Machine.Runs.{resting, Conf, steps, Began, close}
+use Rattle.row.specs.Machine.Runs.{resting, Conf, steps, act, Began, close}
 use Rattle.row.specs.Runs.Course.{Fine, act-fine, act-both}
 use Rattle.promises.specs.Alone.{Ask}
 use Rattle.promises.specs.Histories.{Begun, answers}
@@ -32,7 +33,7 @@ use Rattle.promises.proofs.Runs.Telling.{begun-of, answered-of}
 use Rattle.promises.proofs.Runs.Done.{held-with, Tells, Done, refused, in-table}
 
 -- no vertex is handed back
-pub used-up : (X : Conf) → Fine X → (v : ℕ) → X .world .v .used ≤ move (X .world) (X .at v) .world .v .used
+used-up : (X : Conf) → Fine X → (v : ℕ) → X .world .v .used ≤ move (X .world) (X .at v) .world .v .used
 used-up X f v =
     by (X .world .v .used) (f .good .good .sound .some) (act-both X f (steps v) (λ W z. clash (cc)) .vm .stays)
   where
@@ -60,12 +61,12 @@ answers-is b (answer.Reply n) = refl
 answers-is b (answer.Refused r) = refl
 
 -- A decision that does not refuse is carried out: its write and record are left, and its reply is answered.
-pub record Performed (C : Catalogue) (t : Table) (n : ℕ) (w : Worker) (d : Decision) : Type 0 where
-  pub leaves : perform C t n w d ≡ record { catalogue = commit C (write-of d); table = put t n (record-after w d); answer = answer-of d (record-after w d) }
-  pub replies : replied (answer-of d (record-after w d)) ≡ reply-of d
-  pub whole : answer-of d (record-after w d) ≡ answer.Refused refusal.Torn → ⊥
+record Performed (C : Catalogue) (t : Table) (n : ℕ) (w : Worker) (d : Decision) : Type 0 where
+  leaves : perform C t n w d ≡ record { catalogue = commit C (write-of d); table = put t n (record-after w d); answer = answer-of d (record-after w d) }
+  replies : replied (answer-of d (record-after w d)) ≡ reply-of d
+  whole : answer-of d (record-after w d) ≡ answer.Refused refusal.Torn → ⊥
 
-pub performed : (C : Catalogue) (t : Table) (n : ℕ) (w : Worker) (d : Decision) → Sure d → Performed C t n w d
+performed : (C : Catalogue) (t : Table) (n : ℕ) (w : Worker) (d : Decision) → Sure d → Performed C t n w d
 performed C t n w decision.Torn s = absurd s
 performed C t n w decision.Code s = absurd s
 performed C t n w (decision.Going next write) s = record { leaves = refl; replies = refl; whole = λ e. clash (cc) }
@@ -75,8 +76,14 @@ performed C t n w (decision.Meets next y) s = record { leaves = refl; replies = 
 performed C t n w (decision.Takes next) s = record { leaves = refl; replies = refl; whole = λ e. clash (cc) }
 performed C t n w (decision.Reply number write) s = record { leaves = refl; replies = refl; whole = λ e. clash (cc) }
 
-pub resting? : (s : Spot) → not (resting s) ≡ true → s ≡ Rest → ⊥
+resting? : (s : Spot) → not (resting s) ≡ true → s ≡ Rest → ⊥
 resting? s b e = clash (cc)
+
+-- After a step that is carried out the machine's worker has made its move: the same is left, and the same replied.
+pub record Carried (workers : ℕ) (X : Conf) (v : ℕ) (a : After) : Type 0 where
+  pub held : Held workers (record { catalogue = a .catalogue; table = a .table }) (act X (steps v))
+  pub same-reply : replied (a .answer) ≡ move (X .world) (X .at v) .answer
+  pub whole : a .answer ≡ answer.Refused refusal.Torn → ⊥
 
 module _ (workers : ℕ) (m : Moment) (X : Conf) (h : Held workers m X) (most : workers ≤ 8) (v : ℕ) where
   abbrev done : After
@@ -87,7 +94,7 @@ module _ (workers : ℕ) (m : Moment) (X : Conf) (h : Held workers m X) (most : 
   stepping = record { up = λ a w. none; call = λ a b. answers (b v) a; no-up = λ r w. refl; no-call = λ r b. refl }
 
   -- a busy worker of the table
-  carried : v < workers → busy (m .table) v ≡ true → Done workers X stepping done
+  pub carried : v < workers → busy (m .table) v ≡ true → Carried workers X v done
   carried low b =
       let W : World = X .world in
       let w : Worker = worker-at (m .table) v in
@@ -96,23 +103,34 @@ module _ (workers : ℕ) (m : Moment) (X : Conf) (h : Held workers m X) (most : 
       let f = follow (X .at v) awake (m .catalogue) W (h .shows) (h .fine .good) w (h .fine .ok v) p in
       let d = f .decision in
       let q = performed (m .catalogue) (m .table) v w d (f .sure) in
-      subst (Done workers X stepping) (sym (ap (perform (m .catalogue) (m .table) v w) (f .decides) ∙ q .leaves))
+      subst (Carried workers X v) (sym (ap (perform (m .catalogue) (m .table) v w) (f .decides) ∙ q .leaves))
       (record {
-        choice = steps v;
         held =
             held-with workers m X h v low most (commit (m .catalogue) (write-of d)) (move W (X .at v) .world) (record-after w d) (move W (X .at v) .spot)
             (f .world) (act-fine X (h .fine) (steps v) (λ W e g. clash (cc))) (used-up X (h .fine) v) (f .spot);
-        same = record {
-          taken = λ x. refl;
-          answered = λ c. replying-is (c v) (move W (X .at v) .answer) ∙ sym (answers-is (begun-of (c v)) (answer-of d (record-after w d)) ∙ ap (replying (begun-of (c v))) (q .replies ∙ f .reply));
-          honest = λ W e. clash (cc);
-        };
+        same-reply = q .replies ∙ f .reply;
         whole = q .whole;
       })
 
-  pub steps-done : Done workers X stepping (step (m .catalogue) (m .table) v)
+  -- what holds of every refusal, and of a step that is carried out, holds of the call
+  pub stepping-both : (P : After → Type 0) → ((r : Refusal) → (r ≡ refusal.Torn → ⊥) → P (refuse (m .catalogue) (m .table) r)) → (Carried workers X v done → P done)
+      → P (step (m .catalogue) (m .table) v)
   unfolding step
+  stepping-both P no′ yes′ =
+      pick-both P (worker-fits (m .table .count) v) _ _
+      (λ e. pick-both P (busy (m .table) v) _ _ (λ b. yes′ (carried (in-table h v e) b)) (λ b. no′ refusal.Idle (λ z. clash (cc))))
+      (λ e. no′ refusal.Worker (λ z. clash (cc)))
+
+  pub steps-done : Done workers X stepping (step (m .catalogue) (m .table) v)
   steps-done =
-      in-table workers m X h most stepping v _
-      (λ low. pick-both (Done workers X stepping) (busy (m .table) v) _ _ (λ b. carried low b)
-      (λ b. refused workers m X h most stepping refusal.Idle (λ z. clash (cc))))
+      stepping-both (Done workers X stepping) (refused workers m X h most stepping)
+      (λ c. record {
+        choice = steps v;
+        held = c .held;
+        same = record {
+          taken = λ x. refl;
+          answered = λ b. replying-is (b v) (move (X .world) (X .at v) .answer) ∙ sym (answers-is (begun-of (b v)) (done .answer) ∙ ap (replying (begun-of (b v))) (c .same-reply));
+          honest = λ W e. clash (cc);
+        };
+        whole = c .whole;
+      })

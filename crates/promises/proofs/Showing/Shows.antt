@@ -2,7 +2,7 @@
 -- and says what the world says. What is not handed out may be anything. Assumes nothing.
 use Prim.Native.Nat.{ℕ, _+_, _≤_, _<_}
 use mathlib.Core.Bool.{Bool, true, false}
-use mathlib.Core.List.{List, [], _∷_}
+use mathlib.Core.List.{List}
 use mathlib.Core.Option.{Option, none, some}
 use mathlib.Core.Path.{_≡_}
 use lib.IntN.{ℤ}
@@ -25,9 +25,10 @@ use Rattle.catalogue.specs.declared.workers.Prev.the-variants as prev
 use Rattle.catalogue.specs.declared.workers.Worker.{Worker}
 use Rattle.row.specs.Machine.Vertices.{Idle, AddV, RemV, ConV}
 use Rattle.row.specs.Lists.Edges.{Tag, marked, transit, added, head, at}
+use Rattle.catalogue.proofs.Members.{All}
+use Rattle.catalogue.proofs.Distinct.{Distinct}
 use Rattle.row.specs.Lists.Edges
 use Rattle.row.specs.Machine.World.{World, adds, rems, cons, Opened, closed, opened, Hunt, Spot, Rest, Vert, FindU, FindV, LookE, ConE, Trial, Next}
-use Rattle.row.specs.Steps.Spots.{Mem}
 use Rattle.promises.specs.Bounds.{total}
 use Rattle.promises.proofs.Showing.Weighing.{weigh}
 
@@ -67,18 +68,13 @@ abbrev pub Open : ℕ → Opened → Type 0
 Open used closed = Unit {0}
 Open used (opened x c) = Series used x
 
--- no number stands twice in a list
-abbrev pub Once : List ℕ → Type 0
-Once [] = Unit {0}
-Once (x ∷ xs) = (Mem x xs → ⊥) × Once xs
-
 -- whom a trial has met: series, of which each was taken, or is still to do, once
 pub record Searched (used : ℕ) (met : ℕ → Bool) (todo : List ℕ) (taken : ℕ → Bool) : Type 0 where
   pub met-series : (x : ℕ) → met x ≡ true → Series used x
   pub taken-met : (x : ℕ) → taken x ≡ true → met x ≡ true
-  pub todo-met : (x : ℕ) → Mem x todo → met x ≡ true
-  pub todo-new : (x : ℕ) → Mem x todo → taken x ≡ false
-  pub todo-once : Once todo
+  pub todo-met : All (λ x. met x ≡ true) todo
+  pub todo-new : All (λ x. taken x ≡ false) todo
+  pub todo-once : Distinct todo
 
 -- what a trial keeps: the set met, and the queue from its front on; as many are met as were queued, and who stands before the front was taken
 pub record Hunted (used : ℕ) (w : Worker) (h : Hunt) : Type 0 where

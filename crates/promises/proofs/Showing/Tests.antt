@@ -27,16 +27,3 @@ module _ {A : Type 0} where
 pub neither : (a b : Bool) → pick a true b ≡ false → (a ≡ false) × (b ≡ false)
 neither true b e = clash (cc)
 neither false b e = (refl, e)
-
--- of two tests joined, both hold
-pub second : (a b : Bool) → pick a b false ≡ true → b ≡ true
-second true b e = e
-second false b e = clash (cc)
-
-pub never : (b : Bool) → (b ≡ true → ⊥) → b ≡ false
-never true n = absurd (n refl)
-never false n = refl
-
-pub or-false : (a b : Bool) → (a || b) ≡ false → b ≡ false
-or-false true b e = clash (cc)
-or-false false b e = e

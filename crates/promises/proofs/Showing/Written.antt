@@ -1,38 +1,28 @@
 -- What is read where a link, a key or a target was written, and elsewhere. Assumes nothing.
-use Prim.Native.Nat.{ℕ, _/_, _%_, _≤_, _<_}
+use Prim.Native.Nat.{ℕ, _≤_, _<_}
 use mathlib.Core.Bool.{Bool, true, false}
 use mathlib.Core.Path.{_≡_, refl}
 use native.Mathlib.Omega.{arith}
 use borrow.Author.Tests.{ne-eqb, lt-ltb}
 use lib.IntN.{ℤ}
 use Rattle.catalogue.specs.Tests.{upd}
-use Rattle.catalogue.specs.Numbers.{link, plain, apart, vertex-tag, first-tag, edge-tag}
+use Rattle.catalogue.specs.Numbers.{link, plain, vertex-tag, first-tag, edge-tag}
 use Rattle.catalogue.specs.Catalogue.{vertex-key-in, vertex-link-in, first-link-in, edge-key-in, edge-link-in, edge-target-in}
 use Rattle.catalogue.specs.declared.links.VertexLink.the-variants as vertex
 use Rattle.catalogue.specs.declared.links.EdgeLink.the-variants as edge
 use Rattle.catalogue.specs.declared.links.Target.the-variants as target
+use Rattle.resting.specs.Links.{link-apart}
 use Rattle.row.specs.Base.{upd-same, upd-other}
 use Rattle.row.specs.Lists.Edges.{Tag, marked, transit, added}
 use Rattle.promises.proofs.Showing.Shows.{vertex-tag-of, edge-tag-of}
-
--- a link taken apart is its node and its tag
-pub link-node : (n t : ℕ) → t < 4 → link n t / 4 ≡ n
-link-node n t h = omega arith
-
-pub link-tag : (n t : ℕ) → t < 4 → link n t % 4 ≡ t
-link-tag n t h = omega arith
-
-module _ {A : Type 0} (pool : ℕ) (allowed : ℕ → Bool) (torn : A) (f : ℕ → ℕ → A) (n t : ℕ) where
-  pub apart-link : n < pool → allowed t ≡ true → t < 4 → apart pool allowed (link n t) torn f ≡ f n t
-  apart-link h a s = rw (link-node n t s, link-tag n t s, lt-ltb n pool h, a)
 
 -- ---- vertices
 
 pub vertex-there : (words : ℕ → ℕ) (x n : ℕ) (b : Bool) → (x ≡ 1 → ⊥) → n < 256
     → vertex-link-in (upd words x (link n (vertex-tag-of b))) x ≡ vertex.At n (vertex-tag-of b)
 unfolding vertex-link-in
-vertex-there words x n true d h = rw (ne-eqb x 1 d, upd-same words x (link n 1)) (apart-link 256 vertex-tag vertex.Torn vertex.At n 1 h refl (omega arith))
-vertex-there words x n false d h = rw (ne-eqb x 1 d, upd-same words x (link n 0)) (apart-link 256 vertex-tag vertex.Torn vertex.At n 0 h refl (omega arith))
+vertex-there words x n true d h = rw (ne-eqb x 1 d, upd-same words x (link n 1)) (link-apart 256 vertex-tag n 1 vertex.Torn vertex.At h (omega arith) refl)
+vertex-there words x n false d h = rw (ne-eqb x 1 d, upd-same words x (link n 0)) (link-apart 256 vertex-tag n 0 vertex.Torn vertex.At h (omega arith) refl)
 
 pub vertex-else : (words : ℕ → ℕ) (x word y : ℕ) → (y ≡ x → ⊥) → vertex-link-in (upd words x word) y ≡ vertex-link-in words y
 unfolding vertex-link-in
@@ -40,7 +30,7 @@ vertex-else words x word y d = rw (upd-other words x word y d)
 
 pub first-there : (words : ℕ → ℕ) (x n : ℕ) → n < 2048 → first-link-in (upd words x (link n plain)) x ≡ edge.At n plain
 unfolding first-link-in
-first-there words x n h = rw (upd-same words x (link n plain)) (apart-link 2048 first-tag edge.Torn edge.At n 0 h refl (omega arith))
+first-there words x n h = rw (upd-same words x (link n plain)) (link-apart 2048 first-tag n 0 edge.Torn edge.At h (omega arith) refl)
 
 pub first-else : (words : ℕ → ℕ) (x word y : ℕ) → (y ≡ x → ⊥) → first-link-in (upd words x word) y ≡ first-link-in words y
 unfolding first-link-in
@@ -61,7 +51,7 @@ pub edge-there : (words : ℕ → ℕ) (e n : ℕ) (t : Tag) → 1 ≤ e → e <
 unfolding edge-link-in
 edge-there words e n t low high h =
     rw (ne-eqb e 0 (λ z. omega arith), lt-ltb e 2048 high, upd-same words e (link n (edge-tag-of t)))
-    (apart-link 2048 edge-tag edge.Torn edge.At n (edge-tag-of t) h (allowed t) (small t))
+    (link-apart 2048 edge-tag n (edge-tag-of t) edge.Torn edge.At h (small t) (allowed t))
   where
     allowed : (t : Tag) → edge-tag (edge-tag-of t) ≡ true
     allowed marked = refl

@@ -18,7 +18,7 @@ use Rattle.catalogue.specs.declared.steps.BothSeen.the-variants as both
 use Rattle.catalogue.specs.declared.steps.EdgeSeen.{EdgeSeen}
 use Rattle.catalogue.specs.declared.steps.EdgeSeen.the-variants as seen
 use Rattle.row.specs.Base.{ltZ-true}
-use Rattle.catalogue.proofs.Rules.{eqZ-eq}
+use Rattle.catalogue.proofs.Rules.{eqZ-eq, not-true-false}
 use Rattle.row.specs.Steps.VertexDeeds.{Legal}
 use Rattle.row.specs.Lists.Edges.{Tag, marked, transit, added, Prev, head, at, is-marked, tag-at, link, Mine}
 use Rattle.row.specs.Machine.World.{World, is-added}
@@ -26,7 +26,6 @@ use Rattle.row.specs.Machine.Moves.{ESeen, e-dead, e-again, e-passes, e-marks, 
 use Rattle.row.specs.Graphs.Good.{WGood}
 use Rattle.row.specs.Steps.Spots.{EAims}
 use Rattle.promises.proofs.Showing.Shows.{Shows, Series, prev-of, edge-tag-of}
-use Rattle.promises.proofs.Showing.Tests.{never}
 use Rattle.promises.proofs.Showing.Marks.{edge-is-marked, mark-seen, both-seen}
 use Rattle.promises.proofs.Showing.Pools.{target-series}
 use Rattle.promises.proofs.Showing.Tail.{no-tail, below-tail}
@@ -118,10 +117,10 @@ module _ (C : Catalogue) (W : World) (s : Shows C W) (g : WGood W) (l : ℤ) (u 
       rw (eq-eqb c 0 z, key-seen 0 plain (omega (arith, g .esound .some)), ap (W .e .tag) z ∙ g .tail-tag) (rw (not-lower, not-equal) (other lead not-equal 0 plain))
     where
       not-lower : ltZ (W .e .key c) l ≡ false
-      not-lower = never (ltZ (W .e .key c) l) (λ e. below-tail W g l legal c (inl (ltZ-true (W .e .key c) l e)) z)
+      not-lower = not-true-false (ltZ (W .e .key c) l) (λ e. below-tail W g l legal c (inl (ltZ-true (W .e .key c) l e)) z)
 
       not-equal : eqZ (W .e .key c) l ≡ false
-      not-equal = never (eqZ (W .e .key c) l) (λ e. below-tail W g l legal c (inr (eqZ-eq (W .e .key c) l e)) z)
+      not-equal = not-true-false (eqZ (W .e .key c) l) (λ e. below-tail W g l legal c (inr (eqZ-eq (W .e .key c) l e)) z)
 
   edge-sees : link (W .e) u p ≡ c → Sees W l u p c (see-edge C l c kept) (looks-there W l c)
   edge-sees lead = by (rw lead at (g .esound .sorted u .follows p (aims .inside) (aims .inner) .inside))

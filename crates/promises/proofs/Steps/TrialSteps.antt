@@ -22,10 +22,11 @@ use Rattle.catalogue.proofs.Picks.{clash}
 use Rattle.row.specs.Lists.Edges.{marked, added, at, is-marked, InList, Mine}
 use Rattle.row.specs.Machine.World.{World, Opened, closed, opened, Hunt, Trial}
 use Rattle.row.specs.Machine.Moves.{hunt-open, hunt-take, hunts, trial}
+use Rattle.row.specs.Tests.{or-false}
 use Rattle.row.specs.Graphs.Good.{WGood}
 use Rattle.row.specs.Steps.Spots.{Ok}
 use Rattle.promises.proofs.Showing.Shows.{Shows, Series, Hunted, Asked, Follows, trial-place}
-use Rattle.promises.proofs.Showing.Tests.{pick-cond, pick-or, pick-unless, or-false}
+use Rattle.promises.proofs.Showing.Tests.{pick-cond, pick-or, pick-unless}
 use Rattle.promises.proofs.Showing.Marks.{edge-is-marked, mark-seen, both-seen, at-both-cond}
 use Rattle.promises.proofs.Showing.Tail.{no-tail}
 use Rattle.promises.proofs.Showing.Pools.{vertices-in-pool, series-of, target-series}
@@ -134,7 +135,7 @@ module _ (C : Catalogue) (W : World) (s : Shows C W) (g : WGood W) (w : Worker) 
       follows-cond C w (W .v .marked x || eqb c 0) _ _ _ _ (d ∙ open-shown x c m)
       (λ b f. keeps C W s w k l u v e h keys r closed tt f)
       (λ b f.
-      let j = no-tail (W .e) x c i (eqb-false c 0 (or-false (W .v .marked x) (eqb c 0) b)) in
+      let j = no-tail (W .e) x c i (eqb-false c 0 (or-false (W .v .marked x) (eqb c 0) b .1)) in
       let y = W .e .target c in
       let n = target-series W g c (j .low) (j .high) in
       follows-cond C w (crossed c) _ _ _ _ (f ∙ pass-shown x c j n)

@@ -12,18 +12,12 @@ use Rattle.catalogue.proofs.Members.{All}
 use Rattle.resting.specs.Rows.{row}
 use Rattle.row.specs.Base.{same?, lt-or}
 use Rattle.row.specs.Lists.Links.{Run, stop, go, run-trans, View, Follows, Sorted}
-use Rattle.promises.proofs.Lists.Members.{Among}
 
 -- what holds of a row holds of each of its numbers
 pub all-in-row : (P : ℕ → Type 0) (from n : ℕ) → All P (row from n) → (i : ℕ) → from ≤ i → i < from + n → P i
 unfolding table-from
 all-in-row P from zero h i a b = absurd (omega arith)
 all-in-row P from (suc n) h i a b = elim (same? from i) [ inl q ↦ rw (← q) (h .0) | inr d ↦ all-in-row P (suc from) n (h .1) i (omega arith) (omega arith) ]
-
-pub among-row : (i from n : ℕ) → from ≤ i → i < from + n → Among i (row from n)
-unfolding table-from
-among-row i from zero a b = absurd (omega arith)
-among-row i from (suc n) a b = elim (same? i from) [ inl q ↦ inl q | inr d ↦ inr (among-row i (suc from) n (omega arith) (omega arith)) ]
 
 -- The nodes of the numbers `from` to before `last`, between a head and the node of an end; `after i` is the number i if it is one of them, else the end.
 module _ {N : Type 0} (L : View N) (hd : N) (node : ℕ → N) (end from last : ℕ) where

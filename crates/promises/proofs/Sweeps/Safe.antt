@@ -1,24 +1,25 @@
--- No walk over the edges of a swept catalogue comes back to where it began: it would be a chain in the catalogue before. Assumes nothing.
+-- No walk over the edges of a swept catalogue comes back to where it began: it would be a walk in the live graph of before. Assumes nothing.
 use Prim.Native.Nat.{ℕ, _+_, _≤_, _<_}
 use mathlib.Core.Bool.{true}
-use mathlib.Core.List.{List, [], _∷_, map}
+use mathlib.Core.List.{[], _∷_}
 use mathlib.Core.Path.{_≡_}
 use native.Mathlib.Omega.{arith}
 use lib.IntN.{ℤ}
 use lib.ListN.{length}
+use Rattle.catalogue.specs.Tests.{member}
 use Rattle.catalogue.specs.Catalogue.{Catalogue, edge-key}
 use Rattle.catalogue.specs.Live.{is-live, edges-of, live-vertices, live-edges-of}
 use Rattle.catalogue.specs.Listing.{edge-lines}
 use Rattle.catalogue.specs.Soundness.{Asks, sound}
 use Rattle.catalogue.specs.Sweep.{swept}
+use Rattle.catalogue.proofs.Members.{member-keep}
+use Rattle.resting.specs.Rows.{member-row}
 use Rattle.resting.specs.Shape.{live-row}
 use Rattle.resting.specs.Shares.{start, edges-row}
 use Rattle.resting.specs.Kept.{same-edges, edge-source, edge-live}
 use Rattle.row.specs.Graphs.Older.{Trail, end, via, LiveE, Safe}
-use Rattle.promises.proofs.Lists.Chains.{Listed, Derived, Chain, last, more}
-use Rattle.promises.proofs.Lists.Members.{Among, kept, mapped, gathered}
-use Rattle.promises.proofs.Lists.Printed.{listed}
-use Rattle.promises.proofs.Sweeps.InRow.{among-row}
+use Rattle.promises.specs.Graphs.{printed, live, Walk, here, over}
+use Rattle.promises.proofs.Lists.Live.{edge-line-printed}
 use Rattle.promises.proofs.Sweeps.Owners.{owner-is}
 use Rattle.promises.proofs.Sweeps.World.{count, edge-count, swept-world}
 use Rattle.promises.proofs.Sweeps.Lists.{edge-ends}
@@ -28,29 +29,26 @@ module _ (asks : Asks) (C : Catalogue) (s : sound asks C ≡ true) (again : soun
   key = swept-world C .v .key
 
   -- an edge of the world has its line in the listing of before
-  edge-derived : (e : ℕ) → 1 ≤ e → e < 1 + edge-count C → Derived C (key (swept-world C .e .owner e)) (key (swept-world C .e .target e))
+  edge-derived : (e : ℕ) → 1 ≤ e → e < 1 + edge-count C → live C .derived (key (swept-world C .e .owner e)) (key (swept-world C .e .target e)) ≡ true
   edge-derived e a b =
       let w = edge-ends asks C s again e a b in
       let u : ℕ = swept-world C .e .owner e in
-      let line : List ℤ = key u ∷ edge-key (swept C) e ∷ [] in
-      let m = mapped (λ f. key u ∷ edge-key (swept C) f ∷ []) (live-edges-of (swept C) u) e
-      (kept (is-live (swept C)) (edges-of (swept C) u) e in-list (edge-live asks C s e a (omega arith))) in
-      let v : Among u (live-vertices (swept C)) = rw (live-row asks C s) (among-row u 2 (count C) (w .source-low) (w .source-high)) in
-      let n = gathered (λ x. map (λ f. key x ∷ edge-key (swept C) f ∷ []) (live-edges-of (swept C) x)) (live-vertices (swept C)) u line v m in
-      let d : Listed line (edge-lines C) = rw (same-edges asks C s) at (listed line (edge-lines (swept C)) n) in
-      rw (w .same-key) d
+      let v : member u (live-vertices (swept C)) ≡ true = rw (live-row asks C s) (member-row u 2 (count C) (w .source-low) (w .source-high)) in
+      let d = edge-line-printed (swept C) u e v (member-keep (is-live (swept C)) e (edges-of (swept C) u) in-list (edge-live asks C s e a (omega arith))) in
+      let was : printed (key u ∷ edge-key (swept C) e ∷ []) (edge-lines C) ≡ true = rw (same-edges asks C s) at d in
+      rw (w .same-key) was
     where
-      in-list : Among e (edges-of (swept C) (swept-world C .e .owner e))
+      in-list : member e (edges-of (swept C) (swept-world C .e .owner e)) ≡ true
       in-list =
           let p = edge-source asks C s e a (omega arith) in
           rw (owner-is C (p .front) (p .source) (p .rest) (p .split) e (p .low) (p .high), edges-row asks C s (p .front) (p .source) (p .rest) (p .split))
-          (among-row e (start C (p .front)) (length (live-edges-of C (p .source))) (p .low) (p .high))
+          (member-row e (start C (p .front)) (length (live-edges-of C (p .source))) (p .low) (p .high))
 
-  -- an edge to x, and a trail on from x
-  follow : {P : ℕ → Type 0} {x y : ℕ} (k : ℤ) → ((e : ℕ) → P e → LiveE (swept-world C) e) → Derived C k (key x)
-      → Trail P (swept-world C .e .owner) (swept-world C .e .target) y x → Chain C (key y) k
-  follow k f d (end q) = last (rw q at d)
-  follow {x = x} k f d (via e p q r) = let l = f e p in more (key x) d (follow (key x) f (rw q at (edge-derived e (l .low) (l .high))) r)
+  -- a trail of the world is a walk
+  follow : {P : ℕ → Type 0} {x y : ℕ} → ((e : ℕ) → P e → LiveE (swept-world C) e)
+      → Trail P (swept-world C .e .owner) (swept-world C .e .target) y x → Walk (live C) (key y) (key x)
+  follow f (end q) = rw q here
+  follow f (via e p q r) = let l = f e p in rw (← q) (over (key (swept-world C .e .target e)) (edge-derived e (l .low) (l .high)) (follow f r))
 
-  pub swept-safe : ((k : ℤ) → Chain C k k → ⊥) → Safe (swept-world C)
-  swept-safe none e a t = let u : ℕ = swept-world C .e .owner e in none (key u) (follow (key u) (λ f p. p .0) (edge-derived e (a .low) (a .high)) t)
+  pub swept-safe : ((k l : ℤ) → live C .derived k l ≡ true → Walk (live C) k l → ⊥) → Safe (swept-world C)
+  swept-safe none e a t = none (key (swept-world C .e .owner e)) (key (swept-world C .e .target e)) (edge-derived e (a .low) (a .high)) (follow (λ f p. p .0) t)

@@ -1,6 +1,7 @@
 -- After a sweep the catalogue again shows a good world, without an edge on trial, and the graph is that of before. Assumes nothing.
 use mathlib.Core.Bool.{true}
-use mathlib.Core.Path.{_≡_, refl, ap₂, fun-ext}
+use mathlib.Core.List.{[], _∷_}
+use mathlib.Core.Path.{_≡_, refl, sym, ap, ap₂, _∙_, fun-ext}
 use native.Mathlib.Omega.{arith}
 use lib.Signed.{≤ℤ-refl}
 use Rattle.catalogue.specs.Catalogue.{Catalogue}
@@ -10,12 +11,12 @@ use Rattle.catalogue.specs.Soundness.{sweep, sound}
 use Rattle.catalogue.specs.Sweep.{swept}
 use Rattle.resting.specs.Kept.{same-vertices, same-edges, swept-sound}
 use Rattle.row.specs.Machine.Vertices.{live}
-use Rattle.row.specs.Tests.{bool-iff}
 use Rattle.row.specs.Machine.World.{World, Untried, graph, edges}
 use Rattle.row.specs.Graphs.Good.{WGood}
+use Rattle.promises.specs.Graphs.{printed}
 use Rattle.promises.proofs.Showing.Shows.{Shows}
 use Rattle.promises.proofs.Lists.AtRest.{rest-sound}
-use Rattle.promises.proofs.Lists.Printed.{vertex-read, vertex-printed, reading, printed, no-chain}
+use Rattle.promises.proofs.Lists.Live.{series-is, derived-is, no-loop-here}
 use Rattle.promises.proofs.Sweeps.World.{swept-world, swept-shows, swept-untried}
 use Rattle.promises.proofs.Sweeps.Vertices.{swept-good}
 use Rattle.promises.proofs.Sweeps.Lists.{swept-esound, edge-tail-key, edge-ends}
@@ -30,16 +31,10 @@ pub record Swept (C : Catalogue) : Type 0 where
 -- a catalogue with the lines of another shows the same graph
 module _ (C D : Catalogue) (W X : World) (s : Shows C W) (g : WGood W) (t : Shows D X) (h : WGood X) where
   same-live : vertex-lines D ≡ vertex-lines C → live (X .v) ≡ live (W .v)
-  same-live e =
-      fun-ext (λ k. bool-iff (live (X .v) k) (live (W .v) k)
-      (λ q. vertex-read C W s g k (rw e at (vertex-printed D X t h k q)))
-      (λ q. vertex-read D X t h k (rw e (vertex-printed C W s g k q))))
+  same-live e = fun-ext (λ k. sym (series-is D X t h k) ∙ ap (printed (k ∷ [])) e ∙ series-is C W s g k)
 
   same-edge : edge-lines D ≡ edge-lines C → edges X ≡ edges W
-  same-edge e =
-      fun-ext (λ k. fun-ext (λ l. bool-iff (edges X k l) (edges W k l)
-      (λ q. reading C W s g k l (rw e at (printed D X t h k l q)))
-      (λ q. reading D X t h k l (rw e (printed C W s g k l q)))))
+  same-edge e = fun-ext (λ k. fun-ext (λ l. sym (derived-is D X t h k l) ∙ ap (printed (k ∷ l ∷ [])) e ∙ derived-is C W s g k l))
 
 module _ (C : Catalogue) (W : World) (s : Shows C W) (g : WGood W) (u : Untried W) where
   whole : sound sweep C ≡ true
@@ -59,7 +54,7 @@ module _ (C : Catalogue) (W : World) (s : Shows C W) (g : WGood W) (u : Untried 
           tail-key = edge-tail-key C;
           tail-tag = refl;
           ends = edge-ends sweep C whole again;
-          safe = swept-safe sweep C whole again (no-chain C W s g);
+          safe = swept-safe sweep C whole again (no-loop-here C W s g);
         };
         untried = swept-untried C;
       }

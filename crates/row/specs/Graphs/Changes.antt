@@ -8,13 +8,13 @@ use lib.IntN.{ℤ}
 use Rattle.catalogue.proofs.Picks.{clash}
 use Rattle.row.specs.Base.{upd-same, upd-at, upd-other, same?}
 use Rattle.row.specs.Lists.Links.{marked-dead}
-use Rattle.row.specs.Lists.Hindsight.{Moves}
+use Rattle.row.specs.Lists.Hindsight.{Moves, plain-down}
 use Rattle.row.specs.Lists.Store.{Cat, view, Step}
 use Rattle.row.specs.Lists.Kept.{step-sound, step-moves}
 use Rattle.row.specs.Machine.Vertices.{live}
 use Rattle.row.specs.Graphs.LiveSet.{present-live, present-yes, yes-present}
 use Rattle.row.specs.Tests.{eqZ-yes, eqZ-no, same-key?, and-true, bool-iff}
-use Rattle.row.specs.Lists.Edges.{marked, transit, added, Prev, at, einsert, retag}
+use Rattle.row.specs.Lists.Edges.{Tag, marked, transit, added, Prev, at, einsert, retag}
 use Rattle.row.specs.Machine.World.{World, with-e, edges, put-edge, between}
 use Rattle.row.specs.Graphs.Good.{WGood}
 use Rattle.row.specs.Graphs.Graph.{PresentE, edge-yes, yes-edge, edge-no, same-at}
@@ -47,13 +47,6 @@ module _ (W : World) (g : WGood W) where
       mv : Moves 0 1 (view (W .v)) (view D)
       mv = step-moves t (g .good .sound)
 
-      plain-down : (x : ℕ) → x < W .v .used → D .marked x ≡ false → W .v .marked x ≡ false
-      plain-down x h e = by (W .v .marked x) refl
-        where
-          by : (b : Bool) → W .v .marked x ≡ b → W .v .marked x ≡ false
-          by true f = clash (cc (mv .mark-kept x h f))
-          by false f = f
-
       plain-up : (x : ℕ) (a : ℤ) → x < W .v .used → W .v .marked x ≡ false → W .v .key x ≡ a → live D a ≡ true → D .marked x ≡ false
       plain-up x a h m q z = by (D .marked x) refl
         where
@@ -74,8 +67,8 @@ module _ (W : World) (g : WGood W) where
             low = p .low;
             high = p .high;
             is = p .is;
-            source = plain-down (W .e .owner n) (w .source-high) (p .source);
-            goal = plain-down (W .e .target n) (w .target-high) (p .goal);
+            source = plain-down mv (W .e .owner n) (w .source-high) (p .source);
+            goal = plain-down mv (W .e .target n) (w .target-high) (p .goal);
             leaves = sym (mv .key-kept (W .e .owner n) (w .source-high)) ∙ p .leaves;
             comes = p .comes;
           }) in
@@ -141,26 +134,33 @@ module _ (W : World) (g : WGood W) where
             comes = upd-other _ _ _ _ n ∙ q .comes;
           }
 
+  -- ---- a node gets another tag
+
+  module _ (c : ℕ) where
+    -- an edge of another node was there, and still is
+    module _ (t : Tag) {x y : ℤ} where
+      was-there : (q : PresentE (with-e W (retag (W .e) c t)) x y) → (q .node ≡ c → ⊥) → PresentE W x y
+      was-there q n = record { node = q .node; low = q .low; high = q .high; is = sym (upd-other _ _ _ _ n) ∙ q .is; source = q .source; goal = q .goal; leaves = q .leaves; comes = q .comes }
+
+      still-there : (q : PresentE W x y) → (q .node ≡ c → ⊥) → PresentE (with-e W (retag (W .e) c t)) x y
+      still-there q n = record { node = q .node; low = q .low; high = q .high; is = upd-other _ _ _ _ n ∙ q .is; source = q .source; goal = q .goal; leaves = q .leaves; comes = q .comes }
+
+    -- a node that is marked is no edge
+    not-marked : {x y : ℤ} (q : PresentE (with-e W (retag (W .e) c marked)) x y) → q .node ≡ c → ⊥
+    not-marked q z = clash (cc (q .is, upd-at (W .e .tag) c marked (q .node) z))
+
   -- a node that is no live edge is marked
   pub edges-drop : (c : ℕ) → (W .e .tag c ≡ added → W .v .marked (W .e .target c) ≡ false → ⊥) → edges (with-e W (retag (W .e) c marked)) ≡ edges W
-  edges-drop c d = fun-ext (λ x. fun-ext (λ y. same-at X W x y (down x y) (up x y)))
-    where
-      X : World
-      X = with-e W (retag (W .e) c marked)
+  edges-drop c d =
+      fun-ext (λ x. fun-ext (λ y. same-at (with-e W (retag (W .e) c marked)) W x y (λ q. was-there c marked q (not-marked c q))
+      (λ q. still-there c marked q (λ z. d (rw z at (q .is)) (rw z at (q .goal))))))
 
-      down : (x y : ℤ) → PresentE X x y → PresentE W x y
-      down x y q =
-          elim (same? (q .node) c) [
-            | inl z ↦ clash (cc (q .is, upd-at (W .e .tag) c marked (q .node) z))
-            | inr n ↦ record { node = q .node; low = q .low; high = q .high; is = sym (upd-other _ _ _ _ n) ∙ q .is; source = q .source; goal = q .goal; leaves = q .leaves; comes = q .comes }
-          ]
+  -- the pair of a node
+  abbrev Its : ℕ → ℤ → ℤ → Type 0
+  Its c k l = (W .v .key (W .e .owner c) ≡ k) × (W .e .key c ≡ l)
 
-      up : (x y : ℤ) → PresentE W x y → PresentE X x y
-      up x y q =
-          elim (same? (q .node) c) [
-            | inl z ↦ absurd (d (rw z at (q .is)) (rw z at (q .goal)))
-            | inr n ↦ record { node = q .node; low = q .low; high = q .high; is = upd-other _ _ _ _ n ∙ q .is; source = q .source; goal = q .goal; leaves = q .leaves; comes = q .comes }
-          ]
+  own-pair : (c d : ℕ) {k l x y : ℤ} → Its c k l → Its d x y → d ≡ c → (x ≡ k) × (y ≡ l)
+  own-pair c d i j z = (sym (j .0) ∙ (ap (λ n. W .v .key (W .e .owner n)) z ∙ i .0), sym (j .1) ∙ (ap (W .e .key) z ∙ i .1))
 
   -- a node gets added, a node that was added gets marked
   pub edges-on : (c : ℕ) (k l : ℤ) → 1 ≤ c → c < W .e .used → W .v .marked (W .e .owner c) ≡ false → W .v .marked (W .e .target c) ≡ false
@@ -169,55 +169,29 @@ module _ (W : World) (g : WGood W) where
       fun-ext (λ x. fun-ext (λ y.
       elim (pair? x k y l) [
         | inl z ↦ put-at (edges W) k l true x y (z .0) (z .1) (edge-yes X x y (record { node = c; low = lo; high = hi; is = upd-same _ _ _; source = m; goal = n; leaves = a ∙ sym (z .0); comes = b ∙ sym (z .1) }))
-        | inr d ↦ put-else (edges W) k l true x y d (same-at X W x y (down x y d) (up x y))
+        | inr d ↦ put-else (edges W) k l true x y d (same-at X W x y
+            (λ q. was-there c added q (λ z. d (own-pair c (q .node) (a, b) (q .leaves, q .comes) z)))
+            (λ q. still-there c added q (λ z. d (own-pair c (q .node) (a, b) (q .leaves, q .comes) z))))
       ]))
     where
       X : World
       X = with-e W (retag (W .e) c added)
 
-      down : (x y : ℤ) → ((x ≡ k) × (y ≡ l) → ⊥) → PresentE X x y → PresentE W x y
-      down x y d q =
-          elim (same? (q .node) c) [
-            | inl z ↦ absurd (d (sym (q .leaves) ∙ (ap (λ j. W .v .key (W .e .owner j)) z ∙ a), sym (q .comes) ∙ (ap (W .e .key) z ∙ b)))
-            | inr n ↦ record { node = q .node; low = q .low; high = q .high; is = sym (upd-other _ _ _ _ n) ∙ q .is; source = q .source; goal = q .goal; leaves = q .leaves; comes = q .comes }
-          ]
-
-      up : (x y : ℤ) → PresentE W x y → PresentE X x y
-      up x y q =
-          elim (same? (q .node) c) [
-            | inl z ↦ record { node = q .node; low = q .low; high = q .high; is = upd-at _ _ _ _ z; source = q .source; goal = q .goal; leaves = q .leaves; comes = q .comes }
-            | inr n ↦ record { node = q .node; low = q .low; high = q .high; is = upd-other _ _ _ _ n ∙ q .is; source = q .source; goal = q .goal; leaves = q .leaves; comes = q .comes }
-          ]
-
   pub edges-off : (c : ℕ) (k l : ℤ) → ((p : PresentE W k l) → p .node ≡ c) → W .v .key (W .e .owner c) ≡ k → W .e .key c ≡ l
       → edges (with-e W (retag (W .e) c marked)) ≡ put-edge (edges W) k l false
+  unfolding was-there
   edges-off c k l only a b =
       fun-ext (λ x. fun-ext (λ y.
       elim (pair? x k y l) [
         | inl z ↦ put-at (edges W) k l false x y (z .0) (z .1) (edge-no X x y (gone x y (z .0) (z .1)))
-        | inr d ↦ put-else (edges W) k l false x y d (same-at X W x y (down x y) (up x y d))
+        | inr d ↦ put-else (edges W) k l false x y d (same-at X W x y (λ q. was-there c marked q (not-marked c q))
+            (λ q. still-there c marked q (λ z. d (own-pair c (q .node) (a, b) (q .leaves, q .comes) z))))
       ]))
     where
       X : World
       X = with-e W (retag (W .e) c marked)
 
-      down : (x y : ℤ) → PresentE X x y → PresentE W x y
-      down x y q =
-          elim (same? (q .node) c) [
-            | inl z ↦ clash (cc (q .is, upd-at (W .e .tag) c marked (q .node) z))
-            | inr n ↦ record { node = q .node; low = q .low; high = q .high; is = sym (upd-other _ _ _ _ n) ∙ q .is; source = q .source; goal = q .goal; leaves = q .leaves; comes = q .comes }
-          ]
-
       gone : (x y : ℤ) → x ≡ k → y ≡ l → PresentE X x y → ⊥
       gone x y e f q =
-          elim (same? (q .node) c) [
-            | inl z ↦ clash (cc (q .is, upd-at (W .e .tag) c marked (q .node) z))
-            | inr n ↦ n (only (record { node = q .node; low = q .low; high = q .high; is = sym (upd-other _ _ _ _ n) ∙ q .is; source = q .source; goal = q .goal; leaves = q .leaves ∙ e; comes = q .comes ∙ f }))
-          ]
-
-      up : (x y : ℤ) → ((x ≡ k) × (y ≡ l) → ⊥) → PresentE W x y → PresentE X x y
-      up x y d q =
-          elim (same? (q .node) c) [
-            | inl z ↦ absurd (d (sym (q .leaves) ∙ (ap (λ j. W .v .key (W .e .owner j)) z ∙ a), sym (q .comes) ∙ (ap (W .e .key) z ∙ b)))
-            | inr n ↦ record { node = q .node; low = q .low; high = q .high; is = upd-other _ _ _ _ n ∙ q .is; source = q .source; goal = q .goal; leaves = q .leaves; comes = q .comes }
-          ]
+          let p = was-there c marked q (not-marked c q) in
+          not-marked c q (only (record { node = p .node; low = p .low; high = p .high; is = p .is; source = p .source; goal = p .goal; leaves = p .leaves ∙ e; comes = p .comes ∙ f }))

@@ -22,6 +22,14 @@ pub record Moves {N : Type 0} (hd tl : N) (C D : View N) : Type 0 where
   -- from anywhere, what stays unmarked stays ahead
   pub runs-kept : (x y : N) → C .mine x → Run (C .next) tl y x → D .marked y ≡ false → Run (D .next) tl y x
 
+-- so what is unmarked was unmarked
+pub plain-down : {N : Type 0} {hd tl : N} {C D : View N} (m : Moves hd tl C D) (x : N) → C .mine x → D .marked x ≡ false → C .marked x ≡ false
+plain-down {C = C} m x i e = by (C .marked x) refl
+  where
+    by : (b : Bool) → C .marked x ≡ b → C .marked x ≡ false
+    by true f = clash (cc (m .mark-kept x i f))
+    by false f = f
+
 -- what each event keeps holds at the end
 pub climb : (P : ℕ → Type 0) (t n : ℕ) → t ≤ n → ((i : ℕ) → t ≤ i → i < n → P i → P (suc i)) → P t → P n
 climb P t zero h f p = let e : t ≡ 0 = omega arith in rw e at p

@@ -14,7 +14,7 @@ use Rattle.row.specs.Rows.Row.{Call, History, Entry, All, nil, also, by,
 
 -- ---- lists
 
-all-append : {A : Type 0} {P : A → Type 0} {xs ys : List A} → All P xs → All P ys → All P (xs ++ ys)
+pub all-append : {A : Type 0} {P : A → Type 0} {xs ys : List A} → All P xs → All P ys → All P (xs ++ ys)
 all-append nil q = q
 all-append (also p r) q = also p (all-append r q)
 

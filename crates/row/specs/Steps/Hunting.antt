@@ -1,12 +1,12 @@
 -- Each step of a trial's search keeps what the search knows; when its queue is empty, no walk over older edges leads from v to u. Assumes nothing.
 use Prim.Native.Nat.{ℕ, _<_}
-use mathlib.Core.Bool.{Bool, true, false}
+use mathlib.Core.Bool.{true, false}
 use mathlib.Core.Path.{_≡_, refl, sym, ap, _∙_}
 use mathlib.Core.Logic.{_⊎_, inl, inr}
 use mathlib.Core.List.{List, [], _∷_, _++_}
 use native.Mathlib.Omega.{arith}
 use Rattle.catalogue.proofs.Picks.{clash}
-use Rattle.row.specs.Base.{upd-same, upd-at, upd-other, same?}
+use Rattle.row.specs.Base.{upd-same, upd-at, upd-other, upd-true, same?}
 use Rattle.row.specs.Lists.Links.{Run, stop, go, run-tail}
 use Rattle.catalogue.specs.Tests.{upd}
 use Rattle.row.specs.Lists.Edges.{Prev, head, at, Mine}
@@ -32,9 +32,6 @@ mem-append y (x ∷ xs) ys (inr m) = inr (mem-append y xs ys m)
 mem-last : (y : ℕ) (xs : List ℕ) → Mem y (xs ++ (y ∷ []))
 mem-last y [] = inl refl
 mem-last y (x ∷ xs) = inr (mem-last y xs)
-
-met-up : (met : ℕ → Bool) (y z : ℕ) → met z ≡ true → upd met y true z ≡ true
-met-up met y z m = elim (same? z y) [ inl q ↦ upd-at _ _ _ _ q | inr n ↦ upd-other _ _ _ _ n ∙ m ]
 
 run-end : {nx : Prev → Prev} {b a : Prev} → a ≡ at 0 → Run nx (at 0) b a → a ≡ b
 run-end z (stop e) = e
@@ -79,7 +76,7 @@ module _ (W : World) (g : WGood W) (u v e : ℕ) (h : Hunt) (o : HuntOk W u v e 
         | inl q ↦ inr (rw q (mem-last (W .e .target c) (h .todo)))
         | inr d ↦ elim (o .kept y (sym (upd-other _ _ _ _ d) ∙ m)) [ inl t ↦ inl t | inr z ↦ inr (mem-append y (h .todo) _ z) ]
       ];
-      target-met = met-up (h .met) (W .e .target c) v (o .target-met);
+      target-met = upd-true (h .met) (W .e .target c) v (o .target-met);
       not-u = o .not-u;
       place = next-in;
       covered = covered′;
@@ -88,7 +85,7 @@ module _ (W : World) (g : WGood W) (u v e : ℕ) (h : Hunt) (o : HuntOk W u v e 
         covered′ : (f : ℕ) → LiveE W f → f < e → h .taken (W .e .owner f) ≡ true → (upd (h .met) (W .e .target c) true (W .e .target f) ≡ true) ⊎ Ahead W (opened x (W .e .next c)) f
         covered′ f l i t =
             elim (o .covered f l i t) [
-              | inl m ↦ inl (met-up (h .met) (W .e .target c) (W .e .target f) m)
+              | inl m ↦ inl (upd-true (h .met) (W .e .target c) (W .e .target f) m)
               | inr a ↦ elim (ahead-on f (rw s at a)) [ inl q ↦ inl (upd-at _ _ _ _ (ap (W .e .target) q)) | inr b ↦ inr b ]
             ]
 
@@ -98,7 +95,7 @@ module _ (W : World) (g : WGood W) (u v e : ℕ) (h : Hunt) (o : HuntOk W u v e 
     taken-kept y m = by (o .kept y m)
       where
         by : (h .taken y ≡ true) ⊎ Mem y (h .todo) → (upd (h .taken) x true y ≡ true) ⊎ Mem y xs
-        by (inl t) = inl (met-up (h .taken) x y t)
+        by (inl t) = inl (upd-true (h .taken) x y t)
         by (inr z) = in-list (rw q at z)
           where
             in-list : Mem y (x ∷ xs) → (upd (h .taken) x true y ≡ true) ⊎ Mem y xs

@@ -1,6 +1,6 @@
--- Catalogues that agree agree after the same write: each field is stored to at the same number. So a write to laid memory leaves the memory of the written catalogue. Assumes nothing.
+-- Two catalogues that agree at every number of their pools: a catalogue and what its memory holds do; they are laid as one memory, and agree after the same write. Assumes nothing.
 use Prim.Native.Nat.{ℕ, _<_}
-use mathlib.Core.Path.{_≡_, refl, ap}
+use mathlib.Core.Path.{_≡_, refl, ap, _∙_}
 use lib.IntN.{ℤ}
 use lib.Dec.{eqb}
 use Rattle.catalogue.specs.Tests.{pick, upd}
@@ -10,7 +10,55 @@ use Rattle.catalogue.specs.Writes.{with-vertex-link, with-first, with-edge-link
 use Rattle.catalogue.specs.Lent.{view, lay}
 use Rattle.catalogue.specs.declared.writes.Write.{Write}
 use Rattle.catalogue.specs.declared.writes.Write.the-variants.{Nothing, VertexLink, NewVertex, FirstEdge, EdgeLink, NewFirst, NewEdge}
-use Rattle.lent.proofs.Agrees.{Agree, agree-laid, lay-agree}
+use Rattle.memory.proofs.Laid.{length-keys, length-words, laid-vkey, laid-ekey, laid-vlink, laid-first, laid-target, laid-elink, laid-keys, laid-words}
+
+-- equal counts, and equal fields at every number of their pools
+pub record Agree (C D : Catalogue) : Type 0 where
+  pub vertices : C .vertices-out ≡ D .vertices-out
+  pub edges : C .edges-out ≡ D .edges-out
+  pub vkeys : (n : ℕ) → n < vertex-pool → C .vkey n ≡ D .vkey n
+  pub vlinks : (n : ℕ) → n < vertex-pool → C .vlink n ≡ D .vlink n
+  pub firsts : (n : ℕ) → n < vertex-pool → C .first n ≡ D .first n
+  pub ekeys : (n : ℕ) → n < edge-pool → C .ekey n ≡ D .ekey n
+  pub targets : (n : ℕ) → n < edge-pool → C .target n ≡ D .target n
+  pub elinks : (n : ℕ) → n < edge-pool → C .elink n ≡ D .elink n
+
+pub agree-laid : (C : Catalogue) → Agree (view (lay C)) C
+unfolding lay
+agree-laid C = record {
+  vertices = refl;
+  edges = refl;
+  vkeys = laid-vkey C;
+  vlinks = laid-vlink C;
+  firsts = laid-first C;
+  ekeys = laid-ekey C;
+  targets = laid-target C;
+  elinks = laid-elink C;
+}
+
+pub lay-agree : {C D : Catalogue} → Agree C D → lay C ≡ lay D
+lay-agree {C} {D} a = λ i. record { keys = keys i; words = words i }
+  where
+    laid : Agree (view (lay C)) C
+    laid = agree-laid C
+
+    keys : lay C .keys ≡ lay D .keys
+    keys =
+        laid-keys D (lay C .keys) (length-keys C)
+        (λ n h. laid .vkeys n h ∙ a .vkeys n h)
+        (λ n h. laid .ekeys n h ∙ a .ekeys n h)
+
+    words : lay C .words ≡ lay D .words
+    words =
+        laid-words D (lay C .words) (length-words C)
+        (laid .vertices ∙ a .vertices)
+        (laid .edges ∙ a .edges)
+        (λ n h. laid .vlinks n h ∙ a .vlinks n h)
+        (λ n h. laid .firsts n h ∙ a .firsts n h)
+        (λ n h. laid .targets n h ∙ a .targets n h)
+        (λ n h. laid .elinks n h ∙ a .elinks n h)
+
+-- ---- a write stores to each field at the same number
 
 upd-same : {A : Type 0} (bound : ℕ) (f g : ℕ → A) (i : ℕ) (v : A) → ((n : ℕ) → n < bound → f n ≡ g n)
     → (n : ℕ) → n < bound → upd f i v n ≡ upd g i v n
