@@ -1,44 +1,43 @@
-/* Two series and a derivation are added, a derivation that would close a loop is refused, and the catalogue is listed. */
+/* Two series and a derivation are added, a loop and some wrong calls are refused, a series is removed, and a sweep makes room again. */
 #include <stdio.h>
 #include <stdlib.h>
 
-#include "pallaymi.h"
+#include "lent.h"
 
-static int32_t keys[2304];
-static uint32_t words[4610];
-static uint8_t output[65536];
+static catalogue first, second;
 static pallaymi_workers table;
 
-#define CATALOGUE keys, sizeof keys / sizeof *keys, words, sizeof words / sizeof *words
-
-/* Worker 0 takes up a request and steps to its reply. */
 static void ask(const char *what, uint32_t code, int32_t k, int32_t l) {
-    uint64_t told = pallaymi_take_up(CATALOGUE, &table, 0, code, k, l);
-    unsigned steps = 0;
-    if (told == 0)
-        do {
-            told = pallaymi_step(CATALOGUE, &table, 0);
-            steps++;
-        } while (pallaymi_number(told) == 0);
-    printf("%s: %u after %u steps\n", what, pallaymi_number(told), steps);
+    performed p = perform(&first, &table, code, k, l);
+    printf("%s: %u after %u steps\n", what, p.number, p.steps);
+}
+
+static void tell(const char *what, uint64_t told) {
+    printf("%s: %u\n", what, pallaymi_number(told));
+}
+
+/* Each is refused by its number, and changes nothing. */
+static void go_wrong(void) {
+    ask("code 7", 7, 10, 20);
+    ask("add the least key", PALLAYMI_ADD_SERIES, INT32_MIN, 0);
+    tell("a step of worker 1, who is idle", pallaymi_step(LENT(&first), &table, 1));
+    tell("a step of worker 2, of two", pallaymi_step(LENT(&first), &table, 2));
+    tell("a table of 9 workers", pallaymi_table(&table, 9));
+    tell("keys of another size", pallaymi_fresh(first.keys, KEYS - 1, first.words, WORDS));
 }
 
 int main(void) {
-    if (pallaymi_keys_size() != sizeof keys / sizeof *keys || pallaymi_words_size() != sizeof words / sizeof *words ||
-        pallaymi_output_size() > sizeof output || pallaymi_table_size() != sizeof table)
-        return EXIT_FAILURE;
-    if (pallaymi_fresh(CATALOGUE) != 0 || pallaymi_table(&table, 2) != 0)
-        return EXIT_FAILURE;
+    check_sizes();
+    tell("a fresh catalogue", pallaymi_fresh(LENT(&first)));
+    tell("a table of 2 workers", pallaymi_table(&table, 2));
     ask("add 10", PALLAYMI_ADD_SERIES, 10, 0);
     ask("add 20", PALLAYMI_ADD_SERIES, 20, 0);
+    ask("add 30", PALLAYMI_ADD_SERIES, 30, 0);
     ask("derive 20 from 10", PALLAYMI_ADD_DERIVATION, 10, 20);
     ask("derive 10 from 20", PALLAYMI_ADD_DERIVATION, 20, 10);
-    ask("code 7", 7, 10, 20);
-    printf("a step of worker 1: %u\n", pallaymi_number(pallaymi_step(CATALOGUE, &table, 1)));
-    printf("a step of worker 2: %u\n", pallaymi_number(pallaymi_step(CATALOGUE, &table, 2)));
-    printf("a table of 9 workers: %u\n", pallaymi_number(pallaymi_table(&table, 9)));
-    uint64_t told = pallaymi_listing(CATALOGUE, output, sizeof output);
-    printf("listing: %u, %llu bytes\n", pallaymi_number(told), (unsigned long long)pallaymi_more(told));
-    fwrite(output, 1, (size_t)pallaymi_more(told), stdout);
+    go_wrong();
+    ask("remove 30", PALLAYMI_REMOVE_SERIES, 30, 0);
+    tell("sweep into a second catalogue", pallaymi_sweep(LENT(&first), LENT(&second), &table));
+    print_listing(&second);
     return EXIT_SUCCESS;
 }

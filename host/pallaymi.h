@@ -1,19 +1,20 @@
 /* The calls of the catalogue of series. Link with libhost.a, which `rt staticlib host` writes.
  *
- * The library keeps nothing of its own: the host lends all memory, and no two calls that are lent the same memory may run at once. Every call
- * ends and stays within what it is lent, whatever that holds; the pointers must be to as many numbers or bytes as is said here.
+ * The library keeps nothing of its own: the host lends all memory, and no two calls that are lent the same memory may run at once. The pieces of
+ * memory that one call is lent may not overlap. Every call ends and stays within what it is lent, whatever that holds; the pointers must be to as
+ * many numbers or bytes as is said here.
  *
  * A call tells one number: NUMBER + 256 * MORE, see pallaymi_number and pallaymi_more. NUMBER is 0 (done, or going on), a reply (1 to 9) or a
- * refusal (20 to 26). A refusal changes nothing, and its MORE is 0.
+ * refusal (20 to 27). A refusal changes nothing, and its MORE is 0, except with 27.
  *
  *    1 done, or present                                 20 lent memory of another size than the stated one, or too little output
  *    2 the series is there already, or is not there     21 no such worker, or a count of workers that is not 1 to 8
- *    3 a series is not present                          22 the worker is busy
+ *    3 a series is not present                          22 the worker is busy; with a sweep, any worker
  *    4 the derivation is there already                  23 the worker is idle
  *    5 the derivation is not present                    24 no call has this code
  *    6 the derivation would close a loop                25 a key of the request is reserved
  *    7 the same derivation is on trial                  26 memory or a record that no run of the catalogue can have made
- *    8 a series or the derivation is not present
+ *    8 a series or the derivation is not present        27 the text is no script; MORE is its first bad line
  *    9 no room
  */
 #ifndef PALLAYMI_H
@@ -21,6 +22,10 @@
 
 #include <stddef.h>
 #include <stdint.h>
+
+#ifdef __cplusplus
+extern "C" {
+#endif
 
 /* A table of up to eight workers: memory that the library fills and the host only keeps. It holds no pointer, and may be copied. */
 typedef struct {
@@ -62,7 +67,21 @@ uint64_t pallaymi_step(int32_t *keys, size_t keys_count, uint32_t *words, size_t
 uint64_t pallaymi_listing(const int32_t *keys, size_t keys_count, const uint32_t *words, size_t words_count, uint8_t *output,
                           size_t output_count);
 
+/* Makes the new memory a catalogue of what is live in the old one, so that what was removed takes no room there. The table is that of the workers of
+ * the old catalogue; all of them must be idle. The old memory and the table are only read. Tells 0 or 20, 21, 22, 26. */
+uint64_t pallaymi_sweep(const int32_t *keys, size_t keys_count, const uint32_t *words, size_t words_count, int32_t *new_keys,
+                        size_t new_keys_count, uint32_t *new_words, size_t new_words_count, const pallaymi_workers *table);
+
+/* Makes the lent memory an empty catalogue, runs the script on it, and writes the result at the start of the output. Tells 0, with MORE the number
+ * of bytes written; 20; or 27, with MORE the first bad or missing line, counted from 1, or 0 for a text that is too long. */
+uint64_t pallaymi_run(const uint8_t *script, size_t script_count, int32_t *keys, size_t keys_count, uint32_t *words, size_t words_count,
+                      uint8_t *output, size_t output_count);
+
 static inline uint32_t pallaymi_number(uint64_t told) { return (uint32_t)(told % 256); }
 static inline uint64_t pallaymi_more(uint64_t told) { return told / 256; }
+
+#ifdef __cplusplus
+}
+#endif
 
 #endif

@@ -1,13 +1,13 @@
 // One request by a lone worker, stepped until it is answered.
 ghost use mathlib.Core.Path.{_≡_};
-ghost use Rattle.catalogue.specs.Answers.{refusal-number, told, made-number};
+ghost use Rattle.catalogue.specs.Answers.{told, made-number};
 ghost use Rattle.catalogue.specs.Lent.{memory-of};
 ghost use Rattle.asking.specs.Asked.{Performs};
+use calls::numbers::refusal_number;
 use calls::step::step;
 use calls::take_up::take_up;
 use catalogue::answers::Answer;
 use catalogue::answers::Made;
-use catalogue::answers::Refusal;
 use workers::table::idle_table;
 
 // More than any request takes while nobody else works: a walk for each key, one along a list of edges, and a trial that opens each vertex once.
@@ -17,20 +17,6 @@ const MOST_STEPS: u32 = 10000;
 pub struct Performed {
     pub number: u8,
     pub steps: u32,
-}
-
-fn refusal_number(refusal: Refusal) -> u8
-    ensures { λ r. ⌜ r ≡ refusal-number refusal ⌝ }
-{
-    match refusal {
-        Refusal::Room => 20,
-        Refusal::Worker => 21,
-        Refusal::Busy => 22,
-        Refusal::Idle => 23,
-        Refusal::Code => 24,
-        Refusal::Key => 25,
-        Refusal::Torn => 26,
-    }
 }
 
 fn answer_number(answer: Answer) -> u8

@@ -1,5 +1,5 @@
 -- An answer as one number, by the constructor that the code took it apart into. Assumes nothing.
-use Prim.Native.Nat.{ℕ, _*_}
+use Prim.Native.Nat.{ℕ, _+_, _*_}
 use mathlib.Core.Path.{_≡_, sym, _∙_, ap}
 use native.Mathlib.Omega.{arith}
 use borrow.Author.Needs.{needs}
@@ -11,7 +11,9 @@ use Rattle.catalogue.specs.declared.answers.Made.{Made}
 use Rattle.catalogue.specs.declared.answers.Made.the-variants as made
 use Rattle.catalogue.specs.declared.listing.Listed.{Listed}
 use Rattle.catalogue.specs.declared.listing.Listed.the-variants as listed
-use Rattle.host.specs.Packing.{packed, packed-answer, packed-listed, packed-made}
+use Rattle.catalogue.specs.declared.script.Ran.{Ran}
+use Rattle.catalogue.specs.declared.script.Ran.the-variants as ran
+use Rattle.host.specs.Packing.{packed, packed-answer, packed-listed, packed-made, packed-ran}
 
 -- nothing comes with the number
 alone : (n : ℕ) → n ≡ packed n 0
@@ -52,4 +54,24 @@ module _ (a : Made) where
   unfolding packed-made
   made-refused n r e f = f ∙ alone (refusal-number r) ∙ ap packed-made (sym e)
 
-pub ruleset packs = (answer-going, answer-reply, answer-refused, listed-written, listed-refused, made-done, made-refused, needs)
+module _ (a : Ran) where
+  pub ran-written : (bytes : ℕ) → a ≡ ran.Written bytes → 256 * bytes ≡ packed-ran a
+  unfolding packed-ran
+  ran-written bytes e = bytes-alone ∙ ap packed-ran (sym e)
+    where
+      bytes-alone : 256 * bytes ≡ packed 0 (bytes + 0)
+      bytes-alone = omega arith
+
+  pub ran-refused : (n : ℕ) (r : Refusal) → a ≡ ran.Refused r → n ≡ refusal-number r → n ≡ packed-ran a
+  unfolding packed-ran
+  ran-refused n r e f = f ∙ alone (refusal-number r) ∙ ap packed-ran (sym e)
+
+  pub ran-bad : (line : ℕ) → a ≡ ran.BadScript line → 27 + 256 * line ≡ packed-ran a
+  unfolding packed-ran
+  ran-bad line e = line-alone ∙ ap packed-ran (sym e)
+    where
+      line-alone : 27 + 256 * line ≡ packed 27 (0 + line)
+      line-alone = omega arith
+
+pub ruleset packs =
+    (answer-going, answer-reply, answer-refused, listed-written, listed-refused, made-done, made-refused, ran-written, ran-refused, ran-bad, needs)

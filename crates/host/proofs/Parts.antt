@@ -1,10 +1,10 @@
 -- What the walks speak of: the machine values of a table, the parts of what a call gives, the slices that are lent, and the numbers on the way to a record. Assumes nothing.
 use Prim.Native.Nat.{ℕ, _+_, _*_, _<_, _^_}
 use mathlib.Core.List.{List, [], _∷_}
-use mathlib.Core.Path.{_≡_, refl, sym}
+use mathlib.Core.Path.{_≡_, refl, sym, _∙_}
 use native.Mathlib.Omega.{arith}
 use lib.IntN.{ℤ}
-use lib.ListN.{length}
+use lib.ListN.{length, length-map}
 use mir.Syntax.{named}
 use mir.Val.{Val}
 use base.Fml.{Lft, Fml}
@@ -35,6 +35,10 @@ Words = RefT (List ℕ)
 -- its one machine value
 abbrev pub kept-vals : Kept → List Val
 kept-vals = LL.vals K.the-type K′.the-laws
+
+-- a table that is there has eight records
+pub eight-records : (t : Kept) (v : Val) → Is K.the-row t (v ∷ []) → length (t .records) ≡ 8
+eight-records t v is = sym (length-map (t .records) _) ∙ LL.owed K.the-type K′.the-laws t (v ∷ []) is .1 .0 .1 .0 .1
 
 -- what the lent slices own
 abbrev pub own-keys : Lft → Keys → Fml

@@ -13,9 +13,9 @@ use Rattle.catalogue.specs.declared.answers.Answer.the-variants.{Going, Reply}
 use Rattle.catalogue.specs.declared.answers.Outcome.{Outcome}
 use Rattle.catalogue.specs.declared.answers.Made.the-variants.{Done, Refused}
 use Rattle.catalogue.specs.declared.answers.Refusal.the-variants.{Worker}
-use Rattle.catalogue.specs.Lent.{Memory, lent-fresh, lent-take-up, lent-step, lent-listing}
+use Rattle.catalogue.specs.Lent.{Memory, lent-fresh, lent-take-up, lent-step, lent-listing, lent-run, lent-sweep}
 use Rattle.host.specs.Kept.{table-in, record-at, put-record, slot}
-use Rattle.host.specs.Packing.{packed-answer, packed-listed, packed-made}
+use Rattle.host.specs.Packing.{packed-answer, packed-listed, packed-made, packed-ran}
 use Rattle.host.specs.declared.kept.Kept.{Kept}
 use Rattle.host.specs.declared.kept.Record.{Record}
 use Rattle.host.specs.declared.one.Moved.{Moved}
@@ -57,6 +57,18 @@ Makes-fresh m r keys words =
 
 abbrev pub Lists : Memory → List ℕ → ℕ → List ℕ → Type 0
 Lists m output r output′ = (r ≡ packed-listed (lent-listing m output .answer)) × (output′ ≡ lent-listing m output .output)
+
+-- a script: its result, and the catalogue that it leaves
+abbrev pub Runs : List ℕ → Memory → List ℕ → ℕ → List ℤ → List ℕ → List ℕ → Type 0
+Runs script m output r keys words output′ =
+    let after = lent-run script m output in
+    (r ≡ packed-ran (after .answer)) × ((keys ≡ after .memory .keys) × ((words ≡ after .memory .words) × (output′ ≡ after .output)))
+
+-- a sweep of one memory into a second, with the workers as the table has them; the first memory and the table are only read
+abbrev pub Sweeps : Memory → Memory → Kept → ℕ → List ℤ → List ℕ → Type 0
+Sweeps m n t r keys words =
+    let after = lent-sweep m n (table-in t) in
+    (r ≡ packed-made (after .answer)) × ((keys ≡ after .memory .keys) × (words ≡ after .memory .words))
 
 -- a table of idle workers: 21 is a count that is not 1 to 8
 abbrev pub Makes-table : Kept → ℕ → ℕ → Kept → Type 0

@@ -5,7 +5,7 @@ use mathlib.Core.Path.{_≡_, sym, _∙_}
 use lib.IntN.{ℤ}
 use Rattle.catalogue.specs.Lent.{Memory}
 use Rattle.host.specs.Kept.{table-in}
-use Rattle.host.specs.Promised.{Steps, Takes-up, Makes-table, Makes-fresh, Lists}
+use Rattle.host.specs.Promised.{Steps, Takes-up, Makes-table, Makes-fresh, Lists, Runs, Sweeps}
 use Rattle.host.specs.declared.kept.Kept.{Kept}
 
 pub steps-unique : (m : Memory) (t : Kept) (w r r′ : ℕ) (s s′ : Kept) (keys keys′ : List ℤ) (words words′ : List ℕ)
@@ -26,3 +26,12 @@ makes-fresh-unique m r r′ keys keys′ words words′ h h′ = (h .0 ∙ sym (
 
 pub lists-unique : (m : Memory) (output : List ℕ) (r r′ : ℕ) (left left′ : List ℕ) → Lists m output r left → Lists m output r′ left′ → (r ≡ r′) × (left ≡ left′)
 lists-unique m output r r′ left left′ h h′ = (h .0 ∙ sym (h′ .0), h .1 ∙ sym (h′ .1))
+
+pub runs-unique : (script : List ℕ) (m : Memory) (output : List ℕ) (r r′ : ℕ) (keys keys′ : List ℤ) (words words′ left left′ : List ℕ)
+    → Runs script m output r keys words left → Runs script m output r′ keys′ words′ left′ → (r ≡ r′) × (keys ≡ keys′) × (words ≡ words′) × (left ≡ left′)
+runs-unique script m output r r′ keys keys′ words words′ left left′ h h′ =
+    (h .0 ∙ sym (h′ .0), h .1 .0 ∙ sym (h′ .1 .0), h .1 .1 .0 ∙ sym (h′ .1 .1 .0), h .1 .1 .1 ∙ sym (h′ .1 .1 .1))
+
+pub sweeps-unique : (m n : Memory) (t : Kept) (r r′ : ℕ) (keys keys′ : List ℤ) (words words′ : List ℕ)
+    → Sweeps m n t r keys words → Sweeps m n t r′ keys′ words′ → (r ≡ r′) × (keys ≡ keys′) × (words ≡ words′)
+sweeps-unique m n t r r′ keys keys′ words words′ h h′ = (h .0 ∙ sym (h′ .0), h .1 .0 ∙ sym (h′ .1 .0), h .1 .1 ∙ sym (h′ .1 .1))

@@ -1,25 +1,11 @@
 // The answers of the calls, each as one number.
 ghost use mathlib.Core.Path.{_≡_};
-ghost use Rattle.catalogue.specs.Answers.{refusal-number};
-ghost use Rattle.host.specs.Packing.{packed-answer, packed-listed, packed-made};
+ghost use Rattle.host.specs.Packing.{packed-answer, packed-listed, packed-made, packed-ran};
+use calls::numbers::refusal_number;
 use catalogue::answers::Answer;
 use catalogue::answers::Made;
-use catalogue::answers::Refusal;
 use catalogue::listing::Listed;
-
-fn refusal_number(refusal: Refusal) -> u64
-    ensures { λ r. ⌜ r ≡ refusal-number refusal ⌝ }
-{
-    match refusal {
-        Refusal::Room => 20,
-        Refusal::Worker => 21,
-        Refusal::Busy => 22,
-        Refusal::Idle => 23,
-        Refusal::Code => 24,
-        Refusal::Key => 25,
-        Refusal::Torn => 26,
-    }
-}
+use catalogue::script::Ran;
 
 pub fn packed_answer(answer: Answer) -> u64
     ensures { λ r. ⌜ r ≡ packed-answer answer ⌝ }
@@ -27,7 +13,7 @@ pub fn packed_answer(answer: Answer) -> u64
     match answer {
         Answer::Going { met } => 256 * (met as u64),
         Answer::Reply { number } => number as u64,
-        Answer::Refused { refusal } => refusal_number(refusal),
+        Answer::Refused { refusal } => refusal_number(refusal) as u64,
     }
 }
 
@@ -36,7 +22,7 @@ pub fn packed_listed(answer: Listed) -> u64
 {
     match answer {
         Listed::Written { bytes } => 256 * (bytes as u64),
-        Listed::Refused { refusal } => refusal_number(refusal),
+        Listed::Refused { refusal } => refusal_number(refusal) as u64,
     }
 }
 
@@ -45,6 +31,16 @@ pub fn packed_made(answer: Made) -> u64
 {
     match answer {
         Made::Done => 0,
-        Made::Refused { refusal } => refusal_number(refusal),
+        Made::Refused { refusal } => refusal_number(refusal) as u64,
+    }
+}
+
+pub fn packed_ran(answer: Ran) -> u64
+    ensures { λ r. ⌜ r ≡ packed-ran answer ⌝ }
+{
+    match answer {
+        Ran::Written { bytes } => 256 * (bytes as u64),
+        Ran::Refused { refusal } => refusal_number(refusal) as u64,
+        Ran::BadScript { line } => 27 + 256 * (line as u64),
     }
 }

@@ -25,6 +25,9 @@ enum-known-answer-3 c = search needs
 refusal-number-requires : tie.Need-refusal-number-requires
 refusal-number-requires c κs = search needs
 
+cast-result-3 : tie.Need-cast-result-3
+cast-result-3 c = search needs
+
 returns : tie.Need-returns
 returns c = search packs
 
@@ -45,6 +48,7 @@ packed-answer-spec =
     cast-result-2
     enum-known-answer-3
     refusal-number-requires
+    cast-result-3
     returns
     returns-2
     returns-3)

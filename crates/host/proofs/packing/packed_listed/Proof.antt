@@ -19,6 +19,9 @@ enum-known-answer-2 c = search needs
 refusal-number-requires : tie.Need-refusal-number-requires
 refusal-number-requires c κs = search needs
 
+cast-result-2 : tie.Need-cast-result-2
+cast-result-2 c = search needs
+
 returns : tie.Need-returns
 returns c = search packs
 
@@ -34,5 +37,6 @@ packed-listed-spec =
     mul-result
     enum-known-answer-2
     refusal-number-requires
+    cast-result-2
     returns
     returns-2)

@@ -13,6 +13,9 @@ enum-known-answer c = search needs
 refusal-number-requires : tie.Need-refusal-number-requires
 refusal-number-requires c κs = search needs
 
+cast-result : tie.Need-cast-result
+cast-result c = search needs
+
 returns : tie.Need-returns
 returns c = search packs
 
@@ -21,4 +24,5 @@ returns-2 c = search packs
 
 pub packed-made-spec : {M : Type 1} → statement M
 packed-made-spec =
-    tie.close (tie.spec enum-told enum-known-answer refusal-number-requires returns returns-2)
+    tie.close
+    (tie.spec enum-told enum-known-answer refusal-number-requires cast-result returns returns-2)
