@@ -13,7 +13,7 @@
  *    4 the derivation is there already                  23 the worker is idle
  *    5 the derivation is not present                    24 no call has this code
  *    6 the derivation would close a loop                25 a key of the request is reserved
- *    7 the same derivation is on trial                  26 memory or a record that no run of the catalogue can have made
+ *    7 the same derivation is on trial                  26 memory or a record that is not sound
  *    8 a series or the derivation is not present        27 the text is no script; MORE is its first bad line
  *    9 no room
  */
@@ -68,7 +68,9 @@ uint64_t pallaymi_listing(const int32_t *keys, size_t keys_count, const uint32_t
                           size_t output_count);
 
 /* Makes the new memory a catalogue of what is live in the old one, so that what was removed takes no room there. The table is that of the workers of
- * the old catalogue; all of them must be idle. The old memory and the table are only read. Tells 0 or 20, 21, 22, 26. */
+ * the old catalogue; all of them must be idle. The old memory and the table are only read. A call that was
+ * left unanswered, in a script or with a table that is no longer used, leaves its derivation on trial: such a catalogue can be listed, and not swept (26).
+ * Tells 0 or 20, 21, 22, 26. */
 uint64_t pallaymi_sweep(const int32_t *keys, size_t keys_count, const uint32_t *words, size_t words_count, int32_t *new_keys,
                         size_t new_keys_count, uint32_t *new_words, size_t new_words_count, const pallaymi_workers *table);
 

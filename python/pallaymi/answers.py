@@ -21,6 +21,11 @@ class Reply(IntEnum):
     NO_ROOM = 9
 
     @property
+    def done(self) -> bool:
+        """Whether it is done, or is there. A reply itself is true in any case, being a number."""
+        return self is Reply.DONE
+
+    @property
     def meaning(self) -> str:
         """The reply in words."""
         return _MEANINGS[self]
@@ -88,7 +93,7 @@ class KeyRefused(Refused):
 
 class TornRefused(Refused):
     number = 26
-    meaning = "memory or a record that no run of the catalogue can have made"
+    meaning = "memory or a record that is not sound"
 
 
 class ScriptRefused(Refused):

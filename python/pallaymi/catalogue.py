@@ -16,9 +16,9 @@ class Catalogue:
     """Series and derivations that never close a loop, with up to eight workers, numbered from 0.
 
     A worker takes up a request and steps to its reply; the host chooses whose step is next. Any
-    method may raise a `Refused`, and has then changed nothing. Threads may share a catalogue: one
-    call waits for the other. `lent` is the low-level layer, see `pallaymi.lent`; a call made there
-    is not seen by `busy` and `idle`.
+    method may raise a `Refused`, and has then changed nothing. Threads may share a catalogue, each
+    with a worker of its own: single steps wait for each other. `lent` is the low-level layer, see
+    `pallaymi.lent`; a call made there is not seen by `busy` and `idle`.
     """
 
     def __init__(self, workers: int = 8) -> None:
@@ -58,7 +58,9 @@ class Catalogue:
     def _step(self, worker: int) -> Union[Going, Reply]:
         """The step itself, under the lock; the worker's call notes what it told."""
         told = answer(self.lent.step(worker))
-        call = self._calls[worker]
+        call = self._calls.get(worker)
+        if call is None:
+            return told
         call.steps += 1
         if isinstance(told, Going):
             call.met = told.met
@@ -95,8 +97,8 @@ class Catalogue:
 class Call:
     """One request of one worker, from its taking up on.
 
-    `steps` is how many steps it has made since, `met` how many series its trial has met, and
-    `reply` its reply, or None as long as it goes on.
+    `steps` is how many steps it has made since, `met` how many series its trial has met (0 outside
+    a trial and with a reply), and `reply` its reply, or None as long as it goes on.
     """
 
     def __init__(self, catalogue: Catalogue, worker: int, request: AnyRequest) -> None:

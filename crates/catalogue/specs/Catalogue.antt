@@ -12,6 +12,7 @@ use Rattle.catalogue.specs.declared.links.Target.{Target}
 use Rattle.catalogue.specs.declared.links.Target.the-variants as target
 
 -- Paragraph 2: what a vertex and an edge have, by node number, and how many of each are handed out. Links are words here: any number may stand there.
+-- A vertex number in a record is a u8, and an edge number is tested before its key or target is read, so the reads below are never asked beyond their pool (docs/DECISIONS.md, R45).
 pub record Catalogue : Type 0 where
   pub vertices-out : ℕ
   pub edges-out : ℕ

@@ -2,4 +2,6 @@
 pub mod Rows
 pub mod Checked
 pub mod Damaged
+pub mod Torn
+pub mod Held
 pub mod More

@@ -22,7 +22,7 @@ tag-fits sweep tag = pick (eqb tag transit) false true
 abbrev pub vertex-sound : Catalogue → ℕ → Bool
 vertex-sound C x = at-vertex (vertex-link C x) false (λ next tag. ltZ (vertex-key C x) (vertex-key C next))
 
--- The target of an edge: marked, or met on the vertex walk after the head; and of the edge's key.
+-- The target of an edge has the edge's key, and has its mark or stands on the vertex walk.
 abbrev pub target-sound : Catalogue → ℕ → ℕ → Bool
 target-sound C e y =
     pick (eqZ (vertex-key C y) (edge-key C e)) (at-mark (vertex-link C y) false true (member y (vertices C))) false

@@ -1,11 +1,12 @@
 -- One record read and stored back is the call on the whole table: what each way out leaves, in any table that has the record. Assumes nothing.
 use Prim.Native.Nat.{ℕ, zero, suc, _<_}
-use mathlib.Core.Bool.{true, false, true≢false}
+use mathlib.Core.Bool.{Bool, true, false, true≢false}
 use mathlib.Core.List.{List, [], _∷_, map}
 use mathlib.Core.Path.{_≡_, refl, sym, _∙_, ap, subst}
 use native.Mathlib.Omega.{arith}
-use lib.ListN.{set, List·getD-map}
+use lib.ListN.{getD, set, List·getD-map}
 use lib.Seq.{set-getD}
+use Rattle.catalogue.specs.Tests.{pick}
 use Rattle.catalogue.specs.Workers.{blank, worker-at, put}
 use Rattle.catalogue.specs.Lent as lent
 use Rattle.catalogue.specs.Steps.Decide.{stepped}
@@ -19,7 +20,7 @@ use Rattle.catalogue.specs.declared.workers.Table.{Table}
 use Rattle.catalogue.specs.declared.workers.Worker.{Worker}
 use Rattle.host.specs.Kept.{prev-in, edge-place-in, finding-place-in, place-in, worker-in, table-in, record-of, put-record, empty, record-at, slot}
 use Rattle.host.specs.Packing.{packed-answer}
-use Rattle.host.specs.Promised.{refuses, Leaves}
+use Rattle.host.specs.Promised.{refuses, left-of, Leaves}
 use Rattle.host.specs.Moves.{refused, moved, settled}
 use Rattle.host.specs.declared.kept.Kept.{Kept}
 use Rattle.host.specs.declared.kept.Record.{Record}
@@ -49,6 +50,12 @@ map-set f [] n y = refl
 map-set f (x ∷ xs) zero y = refl
 map-set f (x ∷ xs) (suc n) y = ap (λ zs. f x ∷ zs) (map-set f xs n y)
 
+-- a member written and read back; beyond the end neither list has one
+set-read : {A B : Type 0} (f : A → B) (g : B → A) (d : B) (xs : List A) (n : ℕ) (y : B) → set xs n (g y) ≡ set xs n (g (getD (set (map f xs) n y) n d))
+set-read f g d [] n y = refl
+set-read f g d (x ∷ xs) zero y = refl
+set-read f g d (x ∷ xs) (suc n) y = ap (λ zs. x ∷ zs) (set-read f g d xs n y)
+
 module _ (t : Kept) (n : ℕ) where
   -- the record as it was leaves the table as it was
   pub same-kept : put-record t n (record-at t n) ≡ t
@@ -63,6 +70,14 @@ module _ (t : Kept) (n : ℕ) where
       ap (λ (ws : List Worker). record { count = t .count; workers = ws })
       (map-set worker-in (t .records) n (record-of w) ∙ ap (set (map worker-in (t .records)) n) (worker-back w))
 
+  -- the record of the worker that was put there
+  record-put : (w : Worker) → put-record t n (record-of w) ≡ put-record t n (record-of (worker-at (put (table-in t) n w) n))
+  record-put w = ap (λ (rs : List Record). record { count = t .count; records = rs }) (set-read worker-in record-of blank (t .records) n w)
+
+  -- an answer that is no refusal leaves it written down
+  pub left-put : (w : Worker) (a : Answer) → refuses a ≡ false → put-record t n (record-of w) ≡ left-of t n (record { table = put (table-in t) n w; answer = a })
+  left-put w a kept = record-put w ∙ ap (λ (b : Bool). pick b t (put-record t n (record-of (worker-at (put (table-in t) n w) n)))) (sym kept)
+
 pub slot-is : (n : ℕ) → n < 8 → slot n ≡ n
 slot-is n h = omega (arith, h)
 
@@ -70,10 +85,10 @@ slot-is n h = omega (arith, h)
 
 pub record Stores (t : Kept) (n : ℕ) (x : Moved) (o : Outcome) : Type 0 where
   pub tells : x .told ≡ packed-answer (o .answer)
-  pub leaves : Leaves t o (put-record t (slot n) (x .kept))
+  pub leaves : Leaves t n o (put-record t (slot n) (x .kept))
 
-pub leaves : (t : Kept) (n : ℕ) (x y : Moved) (o p : Outcome) → x ≡ y → Stores t n y o → o ≡ p → Leaves t p (put-record t (slot n) (x .kept))
-leaves t n x y o p e h s = subst (λ (o : Outcome). Leaves t o (put-record t (slot n) (x .kept))) s (subst (λ (x : Moved). Leaves t o (put-record t (slot n) (x .kept))) (sym e) (h .leaves))
+pub leaves : (t : Kept) (n : ℕ) (x y : Moved) (o p : Outcome) → x ≡ y → Stores t n y o → o ≡ p → Leaves t n p (put-record t (slot n) (x .kept))
+leaves t n x y o p e h s = subst (λ (o : Outcome). Leaves t n o (put-record t (slot n) (x .kept))) s (subst (λ (x : Moved). Leaves t n o (put-record t (slot n) (x .kept))) (sym e) (h .leaves))
 
 put-back : (t : Table) (n : ℕ) → put t n (worker-at t n) ≡ t
 put-back t n = ap (λ (ws : List Worker). record { count = t .count; workers = ws }) (set-getD (t .workers) n blank)
@@ -84,7 +99,7 @@ module _ (t : Kept) (n : ℕ) (r : Record) (there : record-at t (slot n) ≡ r) 
 
   pub stores-refused : (why : Refusal) → Stores t n (refused r why) (lent.refused (table-in t) why)
   unfolding refused
-  stores-refused why = record { tells = refl; leaves = (ap table-in same-there, λ _. same-there) }
+  stores-refused why = record { tells = refl; leaves = (same-there, ap table-in same-there) }
 
   module _ (below : n < 8) where
     pub worker-is : worker-in r ≡ worker-at (table-in t) n
@@ -94,7 +109,10 @@ module _ (t : Kept) (n : ℕ) (r : Record) (there : record-at t (slot n) ≡ r) 
     unfolding moved
     stores-moved w a kept = record {
       tells = refl;
-      leaves = (worker-put t (slot n) w ∙ ap (λ (i : ℕ). put (table-in t) i w) (slot-is n below), λ h. absurd (true≢false (sym h ∙ kept)));
+      leaves = (
+        ap (λ (i : ℕ). put-record t i (record-of w)) (slot-is n below) ∙ left-put t n w a kept,
+        worker-put t (slot n) w ∙ ap (λ (i : ℕ). put (table-in t) i w) (slot-is n below),
+      );
     }
 
     -- a refusal has left the worker as it was
@@ -104,7 +122,7 @@ module _ (t : Kept) (n : ℕ) (r : Record) (there : record-at t (slot n) ≡ r) 
     stores-settled w (answer.Reply number) same = stores-moved w (answer.Reply number) refl
     stores-settled w (answer.Refused why) same =
         let h = stores-refused why in
-        record { tells = h .tells; leaves = (h .leaves .0 ∙ sym (ap (put (table-in t) n) (same refl) ∙ put-back (table-in t) n), h .leaves .1) }
+        record { tells = h .tells; leaves = (h .leaves .0, h .leaves .1 ∙ sym (ap (put (table-in t) n) (same refl) ∙ put-back (table-in t) n)) }
 
 -- the record of a decision that refuses
 pub refused-stays : (w : Worker) (d : Decision) → refuses (stepped w d .answer) ≡ true → stepped w d .worker ≡ w

@@ -1,6 +1,6 @@
 -- A table as it is written down: the ways out of making one of idle workers, and all its records read back. Assumes nothing.
 use Prim.Native.Nat.{ℕ, zero, suc}
-use mathlib.Core.Bool.{Bool, true, false, true≢false}
+use mathlib.Core.Bool.{Bool, true, false}
 use mathlib.Core.List.{List, [], _∷_, map}
 use mathlib.Core.Path.{_≡_, refl, sym, _∙_, ap, subst}
 use native.Mathlib.Omega.{arith}
@@ -35,11 +35,11 @@ idle-in count = ap (λ (w : Worker). record { count = count; workers = replicate
 module _ (t : Kept) (count : ℕ) (fits : Bool) (e : fits ≡ one-to 8 count) (t′ : Kept) (told : ℕ) where
   pub table-made : fits ≡ true → t′ ≡ idle-kept count → told ≡ packed-made Done → Makes-table t count told t′
   unfolding count-fits
-  table-made h f g = rw (sym e ∙ h) (g, (ap table-in f ∙ idle-in count, λ h. absurd (true≢false h)))
+  table-made h f g = rw (sym e ∙ h) (g, (f, ap table-in f ∙ idle-in count))
 
   pub table-refused : fits ≡ false → t′ ≡ t → told ≡ packed-made (Refused refusal.Worker) → Makes-table t count told t′
   unfolding count-fits
-  table-refused h f g = rw (sym e ∙ h) (g, (ap table-in f, λ _. f))
+  table-refused h f g = rw (sym e ∙ h) (g, (f, ap table-in f))
 
 -- so many members of a list, from a number on
 abbrev members-from : {A : Type 0} → A → List A → ℕ → ℕ → List A

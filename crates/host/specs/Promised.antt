@@ -5,7 +5,7 @@ use mathlib.Core.List.{List}
 use mathlib.Core.Path.{_≡_}
 use lib.IntN.{ℤ}
 use Rattle.catalogue.specs.Tests.{pick}
-use Rattle.catalogue.specs.Workers.{idle-table}
+use Rattle.catalogue.specs.Workers.{worker-at, idle-table}
 use Rattle.catalogue.specs.Calls.{count-fits}
 use Rattle.catalogue.specs.declared.answers.Answer.{Answer}
 use Rattle.catalogue.specs.declared.answers.Answer.the-variants as answer
@@ -14,7 +14,7 @@ use Rattle.catalogue.specs.declared.answers.Outcome.{Outcome}
 use Rattle.catalogue.specs.declared.answers.Made.the-variants.{Done, Refused}
 use Rattle.catalogue.specs.declared.answers.Refusal.the-variants.{Worker}
 use Rattle.catalogue.specs.Lent.{Memory, lent-fresh, lent-take-up, lent-step, lent-listing, lent-run, lent-sweep}
-use Rattle.host.specs.Kept.{table-in, record-at, put-record, slot}
+use Rattle.host.specs.Kept.{table-in, record-of, record-at, put-record, slot, idle-kept}
 use Rattle.host.specs.Packing.{packed-answer, packed-listed, packed-made, packed-ran}
 use Rattle.host.specs.declared.kept.Kept.{Kept}
 use Rattle.host.specs.declared.kept.Record.{Record}
@@ -25,21 +25,25 @@ refuses (Going met) = false
 refuses (Reply number) = false
 refuses (answer.Refused why) = true
 
--- what a call leaves of the table t: memory that stands for the outcome's table, and to the last bit what it was, if it refuses
-abbrev pub Leaves : Kept → Outcome → Kept → Type 0
-Leaves t o t′ = (table-in t′ ≡ o .table) × (refuses (o .answer) ≡ true → t′ ≡ t)
+-- the table t after a call for worker w, number by number: as it was, if the call refuses; else with the outcome's worker written down at w
+abbrev pub left-of : Kept → ℕ → Outcome → Kept
+left-of t w o = pick (refuses (o .answer)) t (put-record t w (record-of (worker-at (o .table) w)))
+
+-- what a call leaves of the table t: just these numbers, and they stand for the outcome's table
+abbrev pub Leaves : Kept → ℕ → Outcome → Kept → Type 0
+Leaves t w o t′ = (t′ ≡ left-of t w o) × (table-in t′ ≡ o .table)
 
 -- a step
 abbrev pub Steps : Memory → Kept → ℕ → ℕ → Kept → List ℤ → List ℕ → Type 0
 Steps m t w r t′ keys words =
     let after = lent-step m (table-in t) w in
-    (r ≡ packed-answer (after .outcome .answer)) × (Leaves t (after .outcome) t′ × ((keys ≡ after .memory .keys) × (words ≡ after .memory .words)))
+    (r ≡ packed-answer (after .outcome .answer)) × (Leaves t w (after .outcome) t′ × ((keys ≡ after .memory .keys) × (words ≡ after .memory .words)))
 
 -- taking up only reads the catalogue
 abbrev pub Takes-up : Memory → Kept → ℕ → ℕ → ℤ → ℤ → ℕ → Kept → Type 0
 Takes-up m t w code k l r t′ =
     let after = lent-take-up m (table-in t) w code k l in
-    (r ≡ packed-answer (after .outcome .answer)) × Leaves t (after .outcome) t′
+    (r ≡ packed-answer (after .outcome .answer)) × Leaves t w (after .outcome) t′
 
 -- The same of the one record that the call reads and stores back, in whatever table it stands.
 abbrev pub In-any-table : ℕ → ℕ → Record → (Kept → Type 0) → Type 0
@@ -70,8 +74,8 @@ Sweeps m n t r keys words =
     let after = lent-sweep m n (table-in t) in
     (r ≡ packed-made (after .answer)) × ((keys ≡ after .memory .keys) × (words ≡ after .memory .words))
 
--- a table of idle workers: 21 is a count that is not 1 to 8
+-- a table of idle workers, number by number and as the table that it stands for: 21 is a count that is not 1 to 8
 abbrev pub Makes-table : Kept → ℕ → ℕ → Kept → Type 0
 Makes-table t count r t′ =
     (r ≡ packed-made (pick (count-fits count) Done (Refused Worker)))
-    × ((table-in t′ ≡ pick (count-fits count) (idle-table count) (table-in t)) × (count-fits count ≡ false → t′ ≡ t))
+    × ((t′ ≡ pick (count-fits count) (idle-kept count) t) × (table-in t′ ≡ pick (count-fits count) (idle-table count) (table-in t)))

@@ -1,23 +1,22 @@
--- Any two results that the promises allow coincide: the numbers, the slices, and the tables that the memory stands for.
+-- Any two results that the promises allow coincide: the numbers told, the slices, and the lent tables, number by number.
 use Prim.Native.Nat.{ℕ}
 use mathlib.Core.List.{List}
 use mathlib.Core.Path.{_≡_, sym, _∙_}
 use lib.IntN.{ℤ}
 use Rattle.catalogue.specs.Lent.{Memory}
-use Rattle.host.specs.Kept.{table-in}
 use Rattle.host.specs.Promised.{Steps, Takes-up, Makes-table, Makes-fresh, Lists, Runs, Sweeps}
 use Rattle.host.specs.declared.kept.Kept.{Kept}
 
 pub steps-unique : (m : Memory) (t : Kept) (w r r′ : ℕ) (s s′ : Kept) (keys keys′ : List ℤ) (words words′ : List ℕ)
-    → Steps m t w r s keys words → Steps m t w r′ s′ keys′ words′ → (r ≡ r′) × (table-in s ≡ table-in s′) × (keys ≡ keys′) × (words ≡ words′)
+    → Steps m t w r s keys words → Steps m t w r′ s′ keys′ words′ → (r ≡ r′) × (s ≡ s′) × (keys ≡ keys′) × (words ≡ words′)
 steps-unique m t w r r′ s s′ keys keys′ words words′ h h′ =
     (h .0 ∙ sym (h′ .0), h .1 .0 .0 ∙ sym (h′ .1 .0 .0), h .1 .1 .0 ∙ sym (h′ .1 .1 .0), h .1 .1 .1 ∙ sym (h′ .1 .1 .1))
 
 pub takes-up-unique : (m : Memory) (t : Kept) (w code : ℕ) (k l : ℤ) (r r′ : ℕ) (s s′ : Kept)
-    → Takes-up m t w code k l r s → Takes-up m t w code k l r′ s′ → (r ≡ r′) × (table-in s ≡ table-in s′)
+    → Takes-up m t w code k l r s → Takes-up m t w code k l r′ s′ → (r ≡ r′) × (s ≡ s′)
 takes-up-unique m t w code k l r r′ s s′ h h′ = (h .0 ∙ sym (h′ .0), h .1 .0 ∙ sym (h′ .1 .0))
 
-pub makes-table-unique : (t : Kept) (count r r′ : ℕ) (s s′ : Kept) → Makes-table t count r s → Makes-table t count r′ s′ → (r ≡ r′) × (table-in s ≡ table-in s′)
+pub makes-table-unique : (t : Kept) (count r r′ : ℕ) (s s′ : Kept) → Makes-table t count r s → Makes-table t count r′ s′ → (r ≡ r′) × (s ≡ s′)
 makes-table-unique t count r r′ s s′ h h′ = (h .0 ∙ sym (h′ .0), h .1 .0 ∙ sym (h′ .1 .0))
 
 pub makes-fresh-unique : (m : Memory) (r r′ : ℕ) (keys keys′ : List ℤ) (words words′ : List ℕ)

@@ -15,10 +15,10 @@ use catalogue::answers::Answer;
 use catalogue::answers::Refusal;
 use catalogue::links::VertexLink;
 use catalogue::workers::Worker;
+use looks::keys::key_refused;
+use looks::places::first_place;
 use memory::checks::sized;
 use memory::reads::vertex_link;
-use steps::keys::key_refused;
-use steps::places::first_place;
 use workers::records::bare;
 use workers::requests::busy_at;
 

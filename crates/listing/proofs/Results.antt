@@ -17,7 +17,7 @@ use Rattle.catalogue.specs.Catalogue.{Catalogue}
 use Rattle.catalogue.specs.Lent.{Memory, view, sized, output-fits, output-size, catalogue-in, lent-listing}
 use Rattle.catalogue.specs.Listing.{Reply-line, reply-numbers, contents, added-edges, vertex-lines, edge-lines, result-text, written, list-into}
 use Rattle.catalogue.specs.Live.{gather, next-vertex, first-edge, next-edge, unmarked, is-added, edges-of, live-vertices, live-edges-of}
-use Rattle.catalogue.specs.Soundness.{listing, sound}
+use Rattle.catalogue.specs.Soundness.{Asks, listing, sound}
 use Rattle.catalogue.specs.Text.{line, lines}
 use Rattle.catalogue.specs.declared.answers.Refusal.the-variants as refusal
 use Rattle.catalogue.specs.declared.listing.Listed.{Listed}
@@ -106,6 +106,17 @@ module _ (keys : List ℤ) (words : List ℕ) where
   abbrev live : ℕ
   live = length (gather (live-edges-of (linked words)) (live-vertices (linked words)))
 
+  -- the room, whoever asks whether all is sound
+  module _ (l : List ℕ) (asked : Asks) (r : Bool) (e : r ≡ sound asked C) (q : r ≡ true) where
+    limit : live ≤ 2047
+    limit = edges-few asked C (sym e ∙ q)
+
+    pub body-room : (m : List ℕ) (start : ℕ) → 65536 ≤ length l → length m ≡ length l → start ≤ 36 → start + 3072 + 24 * live ≤ length m
+    body-room m start room long within = omega (arith, limit)
+
+    pub text-fits : (start end : ℕ) → start ≤ 36 → end ≤ start + 3072 + 24 * live → Fits w32 end
+    text-fits start end within all = record { fits = omega (arith, limit) }
+
   module _ (l : List ℕ) (r : Bool) (e : r ≡ sound listing C) where
     pub unsound-answer : r ≡ false → Refused refusal.Torn ≡ list-into C l .answer
     unfolding list-into
@@ -115,30 +126,20 @@ module _ (keys : List ℤ) (words : List ℕ) where
     unfolding list-into
     unsound-output q = rw (sym e ∙ q) refl
 
-    module _ (q : r ≡ true) where
-      limit : live ≤ 2047
-      limit = edges-few listing C (sym e ∙ q)
+    module _ (q : r ≡ true) (start : ℕ) (began : start ≡ 0 + length first) where
+      pub sound-answer : (end : ℕ) → end ≡ start + length rest → Written end ≡ list-into C l .answer
+      unfolding list-into
+      sound-answer end last =
+          rw (sym e ∙ q) (ap Written (end-then 0 start first rest began end last ∙ zero-add (length (first ++ rest)) ∙ ap length (sym (text-alone C))))
 
-      pub body-room : (m : List ℕ) (start : ℕ) → 65536 ≤ length l → length m ≡ length l → start ≤ 36 → start + 3072 + 24 * live ≤ length m
-      body-room m start room long within = omega (arith, limit)
-
-      pub text-fits : (start end : ℕ) → start ≤ 36 → end ≤ start + 3072 + 24 * live → Fits w32 end
-      text-fits start end within all = record { fits = omega (arith, limit) }
-
-      module _ (start : ℕ) (began : start ≡ 0 + length first) where
-        pub sound-answer : (end : ℕ) → end ≡ start + length rest → Written end ≡ list-into C l .answer
-        unfolding list-into
-        sound-answer end last =
-            rw (sym e ∙ q) (ap Written (end-then 0 start first rest began end last ∙ zero-add (length (first ++ rest)) ∙ ap length (sym (text-alone C))))
-
-        pub sound-output : (m k : List ℕ) → m ≡ put-at l 0 first → k ≡ put-at m start rest → length m ≡ length l → length k ≡ length m → 65536 ≤ length l
-            → k ≡ list-into C l .output
-        unfolding list-into
-        sound-output m k one two long longer room =
-            let lead : 0 + length first ≤ length l = had-room l m 0 0 first one long (omega arith) in
-            let behind : start + length rest ≤ length m = had-room m k start 0 rest two longer (omega arith) in
-            rw (sym e ∙ q)
-            (put-then 0 start first rest began l m k one two (omega (arith, length-append first rest)) ∙ ap (put-at l 0) (sym (text-alone C)) ∙ at-start (result-text C []) l)
+      pub sound-output : (m k : List ℕ) → m ≡ put-at l 0 first → k ≡ put-at m start rest → length m ≡ length l → length k ≡ length m → 65536 ≤ length l
+          → k ≡ list-into C l .output
+      unfolding list-into
+      sound-output m k one two long longer room =
+          let lead : 0 + length first ≤ length l = had-room l m 0 0 first one long (omega arith) in
+          let behind : start + length rest ≤ length m = had-room m k start 0 rest two longer (omega arith) in
+          rw (sym e ∙ q)
+          (put-then 0 start first rest began l m k one two (omega (arith, length-append first rest)) ∙ ap (put-at l 0) (sym (text-alone C)) ∙ at-start (result-text C []) l)
 
 pub ruleset result-cases = (unsound-answer, unsound-output, body-room, text-fits, sound-answer, sound-output, needs)
 

@@ -8,7 +8,6 @@ use Rattle.catalogue.specs.Numbers.{tail, edge-tail, edge-pool}
 use Rattle.catalogue.specs.Catalogue.{Catalogue, vertex-key, edge-key}
 use Rattle.catalogue.specs.Live.{walk, gather, next-vertex, first-edge, next-edge, unmarked, is-added, is-live}
 use Rattle.catalogue.specs.Text.{line}
-use Rattle.catalogue.specs.Lent.{catalogue-in}
 
 unfoldable pub kept-from : (ℕ → ℕ) → ℕ → (ℕ → Bool) → ℕ → ℕ → List ℕ
 kept-from next end test fuel x = keep test (walk next end fuel x)

@@ -10,13 +10,16 @@ use catalogue::links::Room;
 use catalogue::links::Target;
 use catalogue::links::VertexLink;
 
+// The key of both tails.
+const GREATEST: i32 = 2147483647;
+
 // The tail's key is the greatest, whatever memory holds.
 pub fn vertex_key(keys: &[i32], n: u8) -> i32
     requires { ⌜ length (now keys) ≡ 2304 ⌝ }
     ensures { λ r. ⌜ r ≡ vertex-key-in (vkeys (now (keys .entry))) n ⌝ }
 {
     if n == 1 {
-        return 2147483647;
+        return GREATEST;
     }
     let at = n as usize;
     keys[at]
@@ -74,7 +77,7 @@ pub fn edge_key(keys: &[i32], n: u16) -> i32
     ensures { λ r. ⌜ r ≡ edge-key-in (ekeys (now (keys .entry))) n ⌝ }
 {
     if n == 0 {
-        return 2147483647;
+        return GREATEST;
     }
     let at = 256 + (n as usize);
     keys[at]

@@ -73,7 +73,7 @@ pub fn put_edge_count(words: &mut [u32], count: u16)
     words[1] = count as u32;
 }
 
-// A new vertex has no edges. It is filled before it is counted, and no link leads to it yet.
+// A new vertex has no edges. It is filled, then counted; in a catalogue that steps have made no link leads to it yet.
 fn fill_vertex(keys: &mut [i32], words: &mut [u32], n: u8, key: i32, next: u8)
     requires { ⌜ length (now keys) ≡ 2304 ⌝ }
     requires { ⌜ length (now words) ≡ 4610 ⌝ }
@@ -86,7 +86,7 @@ fn fill_vertex(keys: &mut [i32], words: &mut [u32], n: u8, key: i32, next: u8)
     put_vertex_count(words, n - 1);
 }
 
-// A new edge is on trial. It is filled before it is counted, and no link leads to it yet.
+// A new edge is on trial. It is filled, then counted; in a catalogue that steps have made no link leads to it yet.
 fn fill_edge(keys: &mut [i32], words: &mut [u32], n: u16, key: i32, target: u8, next: u16)
     requires { ⌜ length (now keys) ≡ 2304 ⌝ }
     requires { ⌜ length (now words) ≡ 4610 ⌝ }
@@ -99,7 +99,7 @@ fn fill_edge(keys: &mut [i32], words: &mut [u32], n: u16, key: i32, target: u8, 
     put_edge_count(words, n);
 }
 
-// The link that leads to the new node is the last store, so that nobody reaches it half made.
+// The link that leads to the new node is the last store; where p is that node, it wins.
 fn new_vertex(keys: &mut [i32], words: &mut [u32], n: u8, key: i32, next: u8, p: u8)
     requires { ⌜ length (now keys) ≡ 2304 ⌝ }
     requires { ⌜ length (now words) ≡ 4610 ⌝ }

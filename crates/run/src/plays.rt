@@ -14,7 +14,7 @@ use script::checks::Checked;
 use script::turns::read_turn;
 use workers::table::idle_table;
 
-// All workers are idle, and each has all its requests left.
+// All workers are idle, and each has all its requests left. That the arrays have eight members is told for the loop, which cannot see it.
 fn begin(workers: u32, at: [usize; 8], left: [u32; 8]) -> State
     ensures { λ r. ⌜ r ≡ begins workers at left ⌝ }
     ensures { λ r. ⌜ length at ≡ 8 ⌝ }

@@ -17,7 +17,7 @@ use workers::requests::request_of;
 use workers::table::put;
 use workers::table::worker_at;
 
-// A busy worker's step, on its record where it lies.
+// A busy worker's step: its record is taken out of the table, stepped by reference, and put back.
 fn step_on(keys: &mut [i32], words: &mut [u32], table: Table, worker: u32) -> Outcome
     requires { ⌜ Sized (now keys) (now words) ⌝ }
     requires { ⌜ worker-fits (table .count) worker ≡ true ⌝ }

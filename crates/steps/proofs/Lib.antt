@@ -2,4 +2,3 @@
 pub mod Args
 pub mod Decisions
 pub mod Made
-pub mod Seen

@@ -1,1 +1,2 @@
+-- What carrying out a decision asks for.
 pub mod Follows

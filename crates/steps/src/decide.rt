@@ -2,18 +2,18 @@
 ghost use mathlib.Core.Path.{_≡_};
 ghost use Rattle.catalogue.specs.Lent.{Sized, catalogue-in};
 ghost use Rattle.catalogue.specs.Steps.Decide.{step-at, decide-at, decide};
-use crate::contains::step_contains_edge;
-use crate::edges::step_edge;
-use crate::finding::step_contains;
-use crate::finding::step_find_u;
-use crate::finding::step_find_v;
-use crate::keys::key_refused;
-use crate::trial::step_trial_open;
-use crate::trial::step_trial_shut;
-use crate::vertices::step_vertex;
 use catalogue::steps::Decision;
 use catalogue::workers::Place;
 use catalogue::workers::Worker;
+use edges::step::step_edge;
+use finding::edge::step_contains_edge;
+use finding::ends::step_find_u;
+use finding::ends::step_find_v;
+use finding::vertex::step_contains;
+use looks::keys::key_refused;
+use trial::open::trial_open;
+use trial::shut::trial_shut;
+use vertices::step::step_vertex;
 use workers::records::front_of;
 use workers::requests::request_of;
 
@@ -44,18 +44,7 @@ fn step_at(
         Place::AddE { k, l, u, v, p, c } => step_edge(keys, words, 4, k, l, u, v, p, c),
         Place::RemE { k, l, u, v, p, c } => step_edge(keys, words, 5, k, l, u, v, p, c),
         Place::ConE { k, l, u, v, c } => step_contains_edge(keys, words, k, l, u, v, c),
-        Place::Trial { k, l, u, v, e } => step_trial_shut(
-            keys,
-            words,
-            x,
-            front,
-            back,
-            k,
-            l,
-            u,
-            v,
-            e,
-        ),
+        Place::Trial { k, l, u, v, e } => trial_shut(keys, words, x, front, back, k, l, u, v, e),
         Place::TrialOpen {
             k,
             l,
@@ -64,7 +53,7 @@ fn step_at(
             e,
             x: y,
             c,
-        } => step_trial_open(keys, words, met, front, back, k, l, u, v, e, y, c),
+        } => trial_open(keys, words, met, front, back, k, l, u, v, e, y, c),
     }
 }
 

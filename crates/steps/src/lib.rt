@@ -1,12 +1,3 @@
-// One step of one worker. Each look only reads, and says what it sees; what follows is decided from that; the one write comes last.
-pub mod both;
+// What one step decides, by the place of the record; and the record, the write and the answer that follow from the decision. The write is made by the crate `calls`.
 pub mod carry;
-pub mod contains;
 pub mod decide;
-pub mod edges;
-pub mod finding;
-pub mod keys;
-pub mod places;
-pub mod settling;
-pub mod trial;
-pub mod vertices;

@@ -145,8 +145,8 @@ pub fn edge_sound(keys: &[i32], words: &[u32], met: [u64; 4], sweep: bool, e: u1
     };
     if tag_fits(sweep, tag) {
         let key = edge_key(keys, e);
-        let ahead = edge_key(keys, next);
-        if key < ahead {
+        let following = edge_key(keys, next);
+        if key < following {
             let Target::At { vertex } = edge_target(words, e) else {
                 return false;
             };

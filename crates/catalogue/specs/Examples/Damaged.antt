@@ -1,4 +1,5 @@
--- Document 01, "Replies and refusals": for each refusal 20 to 27 two damaged calls, which give its number and change nothing.
+-- Document 01, "Replies and refusals": for each refusal 20 to 27 two damaged calls or more, which give its number and change nothing. Where two refusals would
+-- fit, the first in the order of the table is given.
 use Prim.Native.Nat.{ℕ}
 use Prim.Native.String.{String}
 use mathlib.Core.Path.{_≡_, refl}
@@ -90,16 +91,21 @@ table =
     taking-up-lent no-memory idle-two 0 1 (pos 5) (pos 0) 20
     ∷ listing-lent good-memory short-output 20
     ∷ running "1 0 0\n\n" good-memory short-output 20 0
+    ∷ running "1 0 0\n" no-memory good-output 20 0
     ∷ taking-up fresh idle-two 2 1 (pos 5) (pos 0) 21
     ∷ stepping fresh (idle-table 9) 0 21
     ∷ taking-up fresh one-busy 0 1 (pos 5) (pos 0) 22
+    ∷ taking-up fresh one-busy 0 7 least (pos 0) 22
     ∷ sweeping fresh torn-head one-busy 22
+    ∷ sweeping torn-head fresh one-busy 22
     ∷ stepping fresh idle-two 0 23
     ∷ stepping fresh one-busy 1 23
     ∷ taking-up fresh idle-two 0 0 (pos 5) (pos 0) 24
     ∷ taking-up fresh idle-two 0 7 (pos 5) (pos 0) 24
+    ∷ taking-up fresh idle-two 0 7 least (pos 0) 24
     ∷ taking-up fresh idle-two 1 2 least (pos 0) 25
     ∷ taking-up fresh idle-two 0 4 (pos 5) greatest 25
+    ∷ taking-up torn-head idle-two 0 1 greatest (pos 0) 25
     ∷ taking-up torn-head idle-two 0 3 (pos 5) (pos 0) 26
     ∷ stepping fresh torn-ends 1 26
     ∷ sweeping left-on-trial fresh idle-two 26
@@ -110,4 +116,4 @@ table =
 
 pub all-refused : All-refused table
 unfolding found after lay sized output-fits lent-take-up lent-listing lent-run list-into table-from
-all-refused = ((refl, refl, refl), ((refl, refl), ((refl, refl, refl, refl), ((refl, refl, refl), ((refl, refl, refl), ((refl, refl, refl), ((refl, refl), ((refl, refl, refl), ((refl, refl, refl), ((refl, refl, refl), ((refl, refl, refl), ((refl, refl, refl), ((refl, refl, refl), ((refl, refl, refl), ((refl, refl, refl), ((refl, refl), ((refl, refl), ((refl, refl, refl, refl), ((refl, refl, refl, refl), tt)))))))))))))))))))
+all-refused = ((refl, refl, refl), ((refl, refl), ((refl, refl, refl, refl), ((refl, refl, refl, refl), ((refl, refl, refl), ((refl, refl, refl), ((refl, refl, refl), ((refl, refl, refl), ((refl, refl), ((refl, refl), ((refl, refl, refl), ((refl, refl, refl), ((refl, refl, refl), ((refl, refl, refl), ((refl, refl, refl), ((refl, refl, refl), ((refl, refl, refl), ((refl, refl, refl), ((refl, refl, refl), ((refl, refl, refl), ((refl, refl), ((refl, refl), ((refl, refl, refl, refl), ((refl, refl, refl, refl), tt))))))))))))))))))))))))

@@ -1,8 +1,10 @@
 -- Examples beside P1 to P10, for what those ten leave open.
+use Prim.Native.Nat.{ℕ}
 use mathlib.Core.Path.{_≡_, refl}
 use mathlib.Core.List.{List, [], _∷_, _++_, map}
 use lib.IntN.{pos, negsuc}
-use Rattle.catalogue.specs.Runs.{sweeps}
+use Rattle.catalogue.specs.Numbers.{least, greatest}
+use Rattle.catalogue.specs.Runs.{Choice, sweeps}
 use Rattle.catalogue.specs.Script.{Script, good, script-text, read-script}
 use Rattle.catalogue.specs.Examples.Rows.{Example, prints, answers, meets, bytes, found, expected, call, stepped}
 use Rattle.catalogue.specs.Examples.Checked.{unused, both-inserted, on-trial}
@@ -60,6 +62,76 @@ crossed-trials = prints
     "3 5 9 5 65\n1 1\n1 2\n1 3\n4 1 2\n4 3 2\n4 3 3\n4 3 2\n4 1 3\n4 3 3\n1 1\n4 3 1\n5 3 3\n4 1 2\n4 2 2\n4 2 1\n2 1\n6 1 2\n3 2\n1 3\n0 0 0 0 0 0 0 0 0 0 0 0 0 0 0 0 0 0 0 1 0 0 1 2 2 2 2 2 0 2 2 0 0 0 0 0 1 1 1 1 1 2 0 0 2 2 2 0 0 0 0 1 1 1 0 0 0 0 0 1 1 1 1 1 1\n"
     "8 2 1\n2 0 1 1\n5 0 1 1\n9 0 1 1\n17 0 4 1\n45 2 4 6\n47 2 2 1\n49 0 4 1\n54 1 4 6\n2\n3\n3 2\n"
 
+-- The second key of codes 1 to 3 is not looked at. A removed vertex is passed by ConV, and is not there.
+abbrev removed-passed : Example
+removed-passed = answers 1
+    (call 0 1 (pos 5) greatest 1 ++ (call 0 1 (pos 7) greatest 2 ++ (call 0 2 (pos 5) least 1 ++ (call 0 3 (pos 7) least 2 ++ call 0 3 (pos 5) unused 1))))
+    (1 ∷ 1 ∷ 1 ∷ 1 ∷ 2 ∷ [])
+
+-- vertices 1, 2 and 3
+abbrev three-vertices : List Choice
+three-vertices = call 0 1 (pos 1) unused 1 ++ (call 0 1 (pos 2) unused 2 ++ call 0 1 (pos 3) unused 3)
+
+-- ConE passes an edge of lower key; it answers 8 where a vertex is missing, and where one was removed after it was found.
+abbrev contained : Example
+contained = answers 2
+    (three-vertices ++ (call 0 4 (pos 1) (pos 2) 7 ++ (call 0 4 (pos 1) (pos 3) 9 ++ (call 0 6 (pos 1) (pos 3) 6 ++ (call 0 6 (pos 4) (pos 1) 4
+    ++ (call 0 6 (pos 1) (pos 4) 5 ++ (call 1 6 (pos 1) (pos 2) 3 ++ (call 0 2 (pos 2) unused 2 ++ stepped 1 1))))))))
+    (1 ∷ 1 ∷ 1 ∷ 1 ∷ 1 ∷ 1 ∷ 8 ∷ 8 ∷ 1 ∷ 8 ∷ [])
+
+-- The edge 1 to 2 is on trial before 1 to 3, which is removed and then unlinked behind it: the tag of 1 to 2 is kept, so it is still not there.
+abbrev kept-on-trial : Example
+kept-on-trial = answers 2
+    (three-vertices ++ (call 1 4 (pos 1) (pos 3) 8 ++ (call 0 4 (pos 1) (pos 2) 4 ++ (call 1 5 (pos 1) (pos 3) 6 ++ (call 1 5 (pos 1) (pos 3) 7
+    ++ call 1 6 (pos 1) (pos 2) 4)))))
+    (1 ∷ 1 ∷ 1 ∷ 1 ∷ 1 ∷ 5 ∷ 8 ∷ [])
+
+-- A worker stands at an edge that is removed and unlinked: it still goes on from there, for no other link than p's was turned.
+abbrev left-behind : Example
+left-behind = answers 2
+    (three-vertices ++ (call 0 4 (pos 1) (pos 2) 7 ++ (call 1 6 (pos 1) (pos 3) 4 ++ (call 0 5 (pos 1) (pos 2) 4 ++ (call 0 5 (pos 1) (pos 2) 5 ++ stepped 1 2)))))
+    (1 ∷ 1 ∷ 1 ∷ 1 ∷ 1 ∷ 5 ∷ 8 ∷ [])
+
+-- p is removed under a look that stands behind it, of AddV and of AddE: the look starts again and unlinks what was removed before it settles.
+abbrev vertex-behind : Example
+vertex-behind = answers 2
+    (call 0 1 (pos 5) unused 1 ++ (call 0 1 (pos 7) unused 2 ++ (call 1 1 (pos 6) unused 1 ++ (call 0 2 (pos 5) unused 1 ++ (stepped 1 3
+    ++ call 0 3 (pos 5) unused 1)))))
+    (1 ∷ 1 ∷ 1 ∷ 1 ∷ 2 ∷ [])
+
+abbrev edge-behind : Example
+edge-behind = answers 2
+    (three-vertices ++ (call 0 4 (pos 1) (pos 2) 7 ++ (call 1 4 (pos 1) (pos 3) 5 ++ (call 0 5 (pos 1) (pos 2) 4 ++ (stepped 1 3
+    ++ (call 0 6 (pos 1) (pos 3) 5 ++ stepped 1 3))))))
+    (1 ∷ 1 ∷ 1 ∷ 1 ∷ 1 ∷ 8 ∷ 1 ∷ [])
+
+-- The target goes while it is open: the trial looks at the marks before it goes on with it.
+abbrev open-target-removed : Example
+open-target-removed = answers 2 (on-trial ++ (stepped 0 1 ++ (call 1 2 (pos 7) unused 2 ++ stepped 0 1))) (1 ∷ 1 ∷ 1 ∷ 3 ∷ [])
+
+-- 2 to 3 and 3 to 1 stand, and 1 to 2 is on trial. 3 is removed while it waits in the queue, and then while it is open: it is dropped, or closed, in one step.
+abbrev almost-loop : ℕ → Example
+almost-loop n = answers 2
+    (three-vertices ++ (call 0 4 (pos 2) (pos 3) 9 ++ (call 0 4 (pos 3) (pos 1) 8 ++ (call 0 4 (pos 1) (pos 2) n ++ (call 1 2 (pos 3) unused 3 ++ stepped 0 2)))))
+    (1 ∷ 1 ∷ 1 ∷ 1 ∷ 1 ∷ 1 ∷ 1 ∷ [])
+
+-- An edge on trial when the schedule ends is neither counted nor listed.
+abbrev listed-on-trial : Example
+listed-on-trial = prints
+    "1 3 10\n1 5\n1 7\n4 5 7\n0 0 0 0 0 0 0 0 0 0\n"
+    "2 2 0\n2 0 1 1\n5 0 1 1\n5\n7\n"
+
+-- Line 1: at most 1,024 requests and 8,192 turns. The schedule: one line, of the stated length, which may be none.
+abbrev line-rules : List Example
+line-rules =
+    prints "1 1024 8192\n" "refused 27 2\n"
+    ∷ prints "1 1025 0\n" "refused 27 1\n"
+    ∷ prints "1 0 8193\n" "refused 27 1\n"
+    ∷ prints "1 0 1\n0 0\n" "refused 27 2\n"
+    ∷ prints "1 0 2\n0\n0\n" "refused 27 2\n"
+    ∷ prints "1 0 0\n\n" "0 0 0\n"
+    ∷ []
+
 -- A script as it is written, and read back: two workers, a request with one key and one with two, and three turns.
 abbrev written-script : Script
 written-script = record {
@@ -77,7 +149,10 @@ unfolding found script-text
 read-back = refl
 
 abbrev pub table : List Example
-table = dead-target ∷ around-zero ∷ bad-line ∷ other-replies ∷ swept ∷ met-counts ∷ crossing-removals ∷ starting-again ∷ crossed-trials ∷ []
+table =
+    dead-target ∷ around-zero ∷ bad-line ∷ other-replies ∷ swept ∷ met-counts ∷ crossing-removals ∷ starting-again ∷ crossed-trials
+    ∷ removed-passed ∷ contained ∷ kept-on-trial ∷ left-behind ∷ vertex-behind ∷ edge-behind ∷ open-target-removed ∷ almost-loop 7 ∷ almost-loop 8
+    ∷ listed-on-trial ∷ line-rules
 
 pub checked : map found table ≡ map expected table
 unfolding found expected

@@ -52,7 +52,7 @@ decide-at C place met x front back =
 abbrev pub decide : Catalogue → Worker → Decision
 decide C w = decide-at C (w .place) (w .met) (front-of w) (w .front) (w .back)
 
--- The record after the step: fields that the new place does not use are zero, after a reply all of them.
+-- The record after the step: what the new place has no use for is zero; a reply leaves the idle record.
 abbrev pub record-after : Worker → Decision → Worker
 record-after w Torn = w
 record-after w Code = w

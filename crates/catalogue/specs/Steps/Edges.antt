@@ -44,7 +44,7 @@ see-edge C l c kept =
     at-mark (vertex-link C y) seen.Torn (seen.Marks next) (see-key C l c kept next tag)))
     (see-key C l c kept next tag))))
 
--- (b): p is MARKED, or its link does not lead to c. c is looked at only for an unmarked p.
+-- (b): an edge p with its mark, or a p that leads elsewhere. c is looked at only for an unmarked p.
 unfoldable pub see-behind : Catalogue → ℤ → ℕ → Prev → ℕ → EdgeSeen
 see-behind C l u p c =
     at-edge (link-behind C u p) seen.Torn (λ to tag.

@@ -1,7 +1,9 @@
 -- The tests are those of the definition. Assumes nothing.
-use Rattle.calls.proofs.Outcomes.{checks}
+use Rattle.calls.proofs.Outcomes.{range-flag}
+use Rattle.catalogue.proofs.Ways.{on-true, on-false}
 use Rattle.catalogue.specs.Calls.{worker-fits, count-fits}
 use borrow.Author.Needs.{needs}
+use borrow.Author.Tests.{lt-ltb, le-ltb}
 use Rattle.calls.proofs.checks.worker_fits.Statement.{statement}
 use Rattle.calls.proofs.checks.worker_fits.Tie as tie
 
@@ -10,15 +12,15 @@ one-to-requires c κs = search needs
 
 returns : tie.Need-returns
 unfolding worker-fits count-fits
-returns c = search checks
+returns c = search (on-true, on-false, range-flag, lt-ltb, le-ltb)
 
 returns-2 : tie.Need-returns-2
 unfolding worker-fits count-fits
-returns-2 c = search checks
+returns-2 c = search (on-true, on-false, range-flag, lt-ltb, le-ltb)
 
 returns-3 : tie.Need-returns-3
 unfolding worker-fits count-fits
-returns-3 c = search checks
+returns-3 c = search (on-false, range-flag)
 
 pub worker-fits-spec : {M : Type 1} → statement M
 worker-fits-spec = tie.close (tie.spec one-to-requires returns returns-2 returns-3)

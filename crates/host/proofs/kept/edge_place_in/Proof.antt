@@ -1,5 +1,5 @@
 -- Each arm is the case of the definition for its kind. Assumes nothing.
-use Rattle.steps.proofs.Seen.{place-ways}
+use Rattle.looks.proofs.Seen.{place-ways}
 use Rattle.host.specs.Kept.{edge-place-in}
 use borrow.Author.Needs.{needs}
 use Rattle.host.proofs.kept.edge_place_in.Statement.{statement}

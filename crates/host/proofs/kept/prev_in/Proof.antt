@@ -1,5 +1,5 @@
 -- Each way out is the case of the definition that its test chooses. Assumes nothing.
-use Rattle.steps.proofs.Seen.{place-ways}
+use Rattle.looks.proofs.Seen.{place-ways}
 use Rattle.host.specs.Kept.{prev-in}
 use Rattle.host.proofs.kept.prev_in.Statement.{statement}
 use Rattle.host.proofs.kept.prev_in.Tie as tie

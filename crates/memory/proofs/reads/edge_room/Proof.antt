@@ -1,5 +1,5 @@
 -- Each way out is a case of the definition, by the same tests. Assumes nothing.
-use Rattle.catalogue.proofs.Rules.{tests}
+use Rattle.memory.proofs.Words.{word-tests}
 use Rattle.catalogue.specs.Numbers.{room}
 use borrow.Author.Needs.{needs}
 use Rattle.memory.proofs.reads.edge_room.Statement.{statement}
@@ -16,15 +16,15 @@ cast-t7 c = search needs
 
 returns : tie.Need-returns
 unfolding room
-returns c = search tests
+returns c = search word-tests
 
 returns-2 : tie.Need-returns-2
 unfolding room
-returns-2 c = search tests
+returns-2 c = search word-tests
 
 returns-3 : tie.Need-returns-3
 unfolding room
-returns-3 c = search tests
+returns-3 c = search word-tests
 
 pub edge-room-spec : {M : Type 1} → statement M
 edge-room-spec =

@@ -1,5 +1,5 @@
 -- Each way out is a case of the definition, by the same tests. Assumes nothing.
-use Rattle.catalogue.proofs.Rules.{tests}
+use Rattle.memory.proofs.Words.{word-tests}
 use Rattle.catalogue.specs.Catalogue.{edge-target-in}
 use borrow.Author.Needs.{needs}
 use Rattle.memory.proofs.reads.edge_target.Statement.{statement}
@@ -19,11 +19,11 @@ cast-t9 c = search needs
 
 returns : tie.Need-returns
 unfolding edge-target-in
-returns c = search tests
+returns c = search word-tests
 
 returns-2 : tie.Need-returns-2
 unfolding edge-target-in
-returns-2 c = search tests
+returns-2 c = search word-tests
 
 pub edge-target-spec : {M : Type 1} → statement M
 edge-target-spec =

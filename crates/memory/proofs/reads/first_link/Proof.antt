@@ -1,5 +1,5 @@
 -- Each way out is a case of the definition, by the same tests. Assumes nothing.
-use Rattle.catalogue.proofs.Rules.{tests}
+use Rattle.memory.proofs.Words.{word-tests}
 use Rattle.catalogue.specs.Catalogue.{first-link-in}
 use borrow.Author.Needs.{needs}
 use Rattle.memory.proofs.reads.first_link.Statement.{statement}
@@ -22,15 +22,15 @@ cast-t13 c = search needs
 
 returns : tie.Need-returns
 unfolding first-link-in
-returns c = search tests
+returns c = search word-tests
 
 returns-2 : tie.Need-returns-2
 unfolding first-link-in
-returns-2 c = search tests
+returns-2 c = search word-tests
 
 returns-3 : tie.Need-returns-3
 unfolding first-link-in
-returns-3 c = search tests
+returns-3 c = search word-tests
 
 pub first-link-spec : {M : Type 1} → statement M
 first-link-spec =

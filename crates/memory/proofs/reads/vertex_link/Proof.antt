@@ -1,5 +1,5 @@
 -- Each way out is a case of the definition, by the same tests. Assumes nothing.
-use Rattle.catalogue.proofs.Rules.{tests}
+use Rattle.memory.proofs.Words.{word-tests}
 use Rattle.catalogue.specs.Catalogue.{vertex-link-in}
 use borrow.Author.Needs.{needs}
 use Rattle.memory.proofs.reads.vertex_link.Statement.{statement}
@@ -7,7 +7,7 @@ use Rattle.memory.proofs.reads.vertex_link.Tie as tie
 
 returns : tie.Need-returns
 unfolding vertex-link-in
-returns c = search tests
+returns c = search word-tests
 
 add-at : tie.Need-add-at
 add-at c = search needs
@@ -26,15 +26,15 @@ cast-t13 c = search needs
 
 returns-2 : tie.Need-returns-2
 unfolding vertex-link-in
-returns-2 c = search tests
+returns-2 c = search word-tests
 
 returns-3 : tie.Need-returns-3
 unfolding vertex-link-in
-returns-3 c = search tests
+returns-3 c = search word-tests
 
 returns-4 : tie.Need-returns-4
 unfolding vertex-link-in
-returns-4 c = search tests
+returns-4 c = search word-tests
 
 pub vertex-link-spec : {M : Type 1} → statement M
 vertex-link-spec =

@@ -82,14 +82,14 @@ step-contains-edge-requires c κs = search needs
 enum-known-place-13 : tie.Need-enum-known-place-13
 enum-known-place-13 c = search needs
 
-step-trial-shut-requires : tie.Need-step-trial-shut-requires
-step-trial-shut-requires c κs = search needs
+trial-shut-requires : tie.Need-trial-shut-requires
+trial-shut-requires c κs = search needs
 
 enum-known-place-14 : tie.Need-enum-known-place-14
 enum-known-place-14 c = search needs
 
-step-trial-open-requires : tie.Need-step-trial-open-requires
-step-trial-open-requires c κs = search needs
+trial-open-requires : tie.Need-trial-open-requires
+trial-open-requires c κs = search needs
 
 returns : tie.Need-returns
 returns c = search places
@@ -166,9 +166,9 @@ step-at-spec =
     enum-known-place-12
     step-contains-edge-requires
     enum-known-place-13
-    step-trial-shut-requires
+    trial-shut-requires
     enum-known-place-14
-    step-trial-open-requires
+    trial-open-requires
     returns
     returns-2
     returns-3

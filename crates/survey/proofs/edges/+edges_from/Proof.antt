@@ -1,5 +1,5 @@
 -- Each way out is a clause of the walk; a call is at one node less. Assumes nothing.
-use Rattle.survey.proofs.EdgeLaws.{edges-cases}
+use Rattle.survey.proofs.EdgeLaws.{edges-cases, edges-live, edges-dead}
 use Prim.Native.Nat.{ℕ, _<_}
 use borrow.Fn.Kinds.{In}
 use borrow.Fn.PlainCycle.{Measures, is, falls, and}
@@ -61,7 +61,7 @@ edges-from-edges-from-requires : (t : ℕ) → edges-from-lts.Need-edges-from-re
 edges-from-edges-from-requires t c κs = search edges-cases
 
 edges-from-returns-3 : (t : ℕ) → edges-from-lts.Need-returns-3 (heard t) (edges-from-at t) edges-from.Post
-edges-from-returns-3 t c = search edges-cases
+edges-from-returns-3 t c = search edges-live
 
 edges-from-sub-edges-from-2 : (t : ℕ) → edges-from-lts.Need-sub-edges-from-2 (heard t) (edges-from-at t) edges-from.Post
 edges-from-sub-edges-from-2 t c = search edges-cases
@@ -70,7 +70,7 @@ edges-from-edges-from-requires-2 : (t : ℕ) → edges-from-lts.Need-edges-from-
 edges-from-edges-from-requires-2 t c κs = search edges-cases
 
 edges-from-returns-4 : (t : ℕ) → edges-from-lts.Need-returns-4 (heard t) (edges-from-at t) edges-from.Post
-edges-from-returns-4 t c = search edges-cases
+edges-from-returns-4 t c = search edges-dead
 
 edges-from-returns-5 : (t : ℕ) → edges-from-lts.Need-returns-5 (heard t) (edges-from-at t) edges-from.Post
 edges-from-returns-5 t c = search edges-cases

@@ -1,8 +1,13 @@
 -- Each way out is a case of the definition. Assumes nothing.
-use Rattle.survey.proofs.Told.{told-ways}
-use borrow.Author.Needs.{needs}
+use Rattle.survey.proofs.Told.{met-on, eqZ-both-true, eqZ-both-false}
+use Rattle.catalogue.proofs.Ways.{on-true, on-false, vertex-at, vertex-torn}
+use borrow.Author.Needs.{needs, sfits-of}
+use borrow.Author.Tests.{eq-eqb, ne-eqb}
 use Rattle.survey.proofs.tests.target_sound.Statement.{statement}
 use Rattle.survey.proofs.tests.target_sound.Tie as tie
+
+-- the reads and the tests on the way
+ruleset target-ways = (on-true, on-false, eqZ-both-true, eqZ-both-false, vertex-at, vertex-torn, eq-eqb, ne-eqb, met-on, sfits-of)
 
 vertex-key-requires : tie.Need-vertex-key-requires
 vertex-key-requires c κs = search needs
@@ -20,19 +25,19 @@ enum-told : tie.Need-enum-told
 enum-told c = search needs
 
 returns : tie.Need-returns
-returns c = search told-ways
+returns c = search target-ways
 
 returns-2 : tie.Need-returns-2
-returns-2 c = search told-ways
+returns-2 c = search target-ways
 
 met-has-requires : tie.Need-met-has-requires
 met-has-requires c κs = search needs
 
 returns-3 : tie.Need-returns-3
-returns-3 c = search told-ways
+returns-3 c = search target-ways
 
 returns-4 : tie.Need-returns-4
-returns-4 c = search told-ways
+returns-4 c = search target-ways
 
 pub target-sound-spec : {M : Type 1} → statement M
 target-sound-spec =

@@ -1,6 +1,7 @@
 -- Each way out is a case of the definition, by the two keys that are read. Assumes nothing.
-use Rattle.survey.proofs.Told.{told-ways}
-use borrow.Author.Needs.{needs}
+use Rattle.survey.proofs.Told.{ltZ-says}
+use Rattle.catalogue.proofs.Ways.{vertex-at, vertex-torn}
+use borrow.Author.Needs.{needs, sfits-of}
 use Rattle.survey.proofs.tests.vertex_sound.Statement.{statement}
 use Rattle.survey.proofs.tests.vertex_sound.Tie as tie
 
@@ -14,7 +15,7 @@ enum-told : tie.Need-enum-told
 enum-told c = search needs
 
 returns : tie.Need-returns
-returns c = search told-ways
+returns c = search vertex-torn
 
 vertex-key-requires : tie.Need-vertex-key-requires
 vertex-key-requires c κs = search needs
@@ -23,10 +24,10 @@ vertex-key-requires-2 : tie.Need-vertex-key-requires-2
 vertex-key-requires-2 c κs = search needs
 
 returns-2 : tie.Need-returns-2
-returns-2 c = search told-ways
+returns-2 c = search (vertex-at, ltZ-says, sfits-of)
 
 returns-3 : tie.Need-returns-3
-returns-3 c = search told-ways
+returns-3 c = search (vertex-at, ltZ-says, sfits-of)
 
 pub vertex-sound-spec : {M : Type 1} → statement M
 vertex-sound-spec =

@@ -1,0 +1,20 @@
+-- Each way out is the case of the definition that its tests and reads choose. Assumes nothing.
+use Rattle.edges.proofs.Seen.{edge-ways}
+use borrow.Author.Needs.{needs}
+use Rattle.edges.proofs.step.relink.Statement.{statement}
+use Rattle.edges.proofs.step.relink.Tie as tie
+
+enum-told : tie.Need-enum-told
+enum-told c = search needs
+
+enum-known-p : tie.Need-enum-known-p
+enum-known-p c = search needs
+
+returns : tie.Need-returns
+returns c = search edge-ways
+
+returns-2 : tie.Need-returns-2
+returns-2 c = search edge-ways
+
+pub relink-spec : {M : Type 1} → statement M
+relink-spec = tie.close (tie.spec enum-told enum-known-p returns returns-2)

@@ -1,0 +1,38 @@
+// (a), and how a trial ends.
+ghost use mathlib.Core.Path.{_≡_};
+ghost use Rattle.catalogue.specs.Lent.{Sized, catalogue-in};
+ghost use Rattle.catalogue.specs.Steps.Trial.{end-trial, see-trial};
+use catalogue::links::EdgeLink;
+use catalogue::steps::BothSeen;
+use catalogue::steps::Decision;
+use catalogue::writes::Write;
+use looks::both::see_both;
+use memory::reads::edge_link;
+
+// The own edge gets its last tag, and the trial ends with a reply.
+pub fn end_trial(keys: &[i32], words: &[u32], e: u16, tag: u8, reply: u8) -> Decision
+    requires { ⌜ Sized (now keys) (now words) ⌝ }
+    ensures { λ r. ⌜ r ≡ end-trial (catalogue-in (now (keys .entry)) (now (words .entry))) e tag reply ⌝ }
+{
+    let EdgeLink::At { next, tag: _ } = edge_link(words, e) else {
+        return Decision::Torn;
+    };
+    Decision::Reply {
+        number: reply,
+        write: Write::EdgeLink { edge: e, next, tag },
+    }
+}
+
+// (a) The ends of the queue in order, then the marks of u and v.
+pub fn see_trial(keys: &[i32], words: &[u32], front: u16, back: u16, u: u8, v: u8) -> BothSeen
+    requires { ⌜ Sized (now keys) (now words) ⌝ }
+    ensures { λ r. ⌜ r ≡ see-trial (catalogue-in (now (keys .entry)) (now (words .entry))) front back u v ⌝ }
+{
+    if front <= back {
+        if back <= 256 {
+            return see_both(keys, words, u, v);
+        }
+        return BothSeen::Torn;
+    }
+    BothSeen::Torn
+}
