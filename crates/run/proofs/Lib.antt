@@ -1,6 +1,5 @@
 -- Laws of one turn, of what bounds a run, of the loop, and of the result.
 pub mod TurnLaws
-pub mod Small
 pub mod Owed
 pub mod Moves
 pub mod Bounds

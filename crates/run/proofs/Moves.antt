@@ -24,8 +24,8 @@ use Rattle.catalogue.specs.declared.workers.Request.{Request}
 use Rattle.catalogue.specs.declared.workers.Table.{Table}
 use Rattle.catalogue.specs.declared.workers.Worker.{Worker}
 use Rattle.catalogue.proofs.Picks.{clash, pick-both, vertex-both}
+use Rattle.promises.proofs.Fates.Any.{reply-small}
 use Rattle.run.proofs.Owed.{one, owed, owed-set}
-use Rattle.run.proofs.Small.{reply-small}
 
 abbrev pub replied : Answer → ℕ
 replied (answer.Going met) = 0

@@ -1,16 +1,19 @@
 -- What a decision tells, at any place. Assumes nothing.
-use Prim.Native.Nat.{ℕ}
+use Prim.Native.Nat.{ℕ, _≤_}
 use mathlib.Core.List.{List}
+use mathlib.Core.Path.{_≡_, subst}
 use Rattle.catalogue.specs.Catalogue.{Catalogue}
 use Rattle.catalogue.specs.Workers.{request-of, front-of}
 use Rattle.catalogue.specs.Steps.Places.{key-refused}
 use Rattle.catalogue.specs.Steps.Decide.{step-at, decide-at, decide}
 use Rattle.catalogue.specs.declared.steps.Decision.{Decision}
+use Rattle.catalogue.specs.declared.steps.Decision.the-variants.{Reply}
 use Rattle.catalogue.specs.declared.workers.Place.{Place}
 use Rattle.catalogue.specs.declared.workers.Place.the-variants.{Idle, AddV, RemV, ConV, AddEFindU, RemEFindU, ConEFindU, AddEFindV, RemEFindV, ConEFindV, AddE, RemE, ConE, Trial, TrialOpen}
 use Rattle.catalogue.specs.declared.workers.Worker.{Worker}
+use Rattle.catalogue.specs.declared.writes.Write.{Write}
 use Rattle.catalogue.proofs.Picks.{pick-both}
-use Rattle.promises.proofs.Fates.Told.{Fate}
+use Rattle.promises.proofs.Fates.Told.{Fate, told-small}
 use Rattle.promises.proofs.Fates.Vertices.{adds-vertex, removes-vertex}
 use Rattle.promises.proofs.Fates.Finding.{contains, finds-u, finds-v}
 use Rattle.promises.proofs.Fates.Edges.{contains-edge, adds-edge, removes-edge}
@@ -43,3 +46,7 @@ fate C w =
     let r = request-of (w .place) in
     pick-both (Fate C (front-of w) (w .front) (w .back) (w .place)) (key-refused (r .code) (r .k) (r .l)) _ _
     (λ e. tt) (λ e. fates C (front-of w) (w .front) (w .back) (w .met) (w .place))
+
+-- a reply has one digit
+pub reply-small : (C : Catalogue) (w : Worker) (n : ℕ) (write : Write) → decide C w ≡ Reply n write → n ≤ 9
+reply-small C w n write e = told-small (subst (Fate C (front-of w) (w .front) (w .back) (w .place)) e (fate C w))

@@ -50,12 +50,12 @@ module _ (C : Catalogue) (x front back : ℕ) where
       P = F (ConE k l u v c)
 
       eight : P (Reply 8 Nothing)
-      eight = in-row refl
+      eight = in-row refl tt
 
       by : (z : BothSeen) → P (at-both z Torn (Reply 8 Nothing) (Reply 1 Nothing))
       by both.Torn = tt
       by both.Dead = eight
-      by both.Standing = in-row refl
+      by both.Standing = in-row refl tt
 
   restarts-edge : (pl : Place) (code : ℕ) (k l : ℤ) (u v : ℕ) → F pl (restart C code k l u v)
   unfolding restart
@@ -74,14 +74,14 @@ module _ (C : Catalogue) (x front back : ℕ) where
       where
         by : (z : EdgeSeen) → look-at-edge C l u v p c ≡ z → F (AddE k l u v p c) (decide-edge C 4 k l u v p c z)
         by edge-seen.Torn q = tt
-        by edge-seen.Dead q = in-row refl
+        by edge-seen.Dead q = in-row refl tt
         by edge-seen.Again q = restarts-edge (AddE k l u v p c) 4 k l u v
         by (edge-seen.Unlinks kept next) q = to-edge 4 k l u v p next
         by (edge-seen.Marks next) q = to-edge 4 k l u v p c
         by (edge-seen.Onward next) q = to-edge 4 k l u v _ next
         by (edge-seen.Settles kept next tag true) q =
             pick-both (F (AddE k l u v p c)) (eqb tag transit) _ _
-            (λ e. on-trial refl refl k l u v p c kept next refl (rw (eqb-true tag transit e) at q)) (λ e. in-row refl)
+            (λ e. on-trial refl refl k l u v p c kept next refl (rw (eqb-true tag transit e) at q)) (λ e. in-row refl tt)
         by (edge-seen.Settles kept next tag false) q = full-edge kept next tag q
 
     pub removes-edge : F (RemE k l u v p c) (step-edge C 5 k l u v p c)
@@ -90,11 +90,11 @@ module _ (C : Catalogue) (x front back : ℕ) where
       where
         by : (z : EdgeSeen) → F (RemE k l u v p c) (decide-edge C 5 k l u v p c z)
         by edge-seen.Torn = tt
-        by edge-seen.Dead = in-row refl
+        by edge-seen.Dead = in-row refl tt
         by edge-seen.Again = restarts-edge (RemE k l u v p c) 5 k l u v
         by (edge-seen.Unlinks kept next) = to-edge 5 k l u v p next
         by (edge-seen.Marks next) = to-edge 5 k l u v p c
         by (edge-seen.Onward next) = to-edge 5 k l u v _ next
         by (edge-seen.Settles kept next tag true) =
-            pick-both (F (RemE k l u v p c)) (eqb tag added) _ _ (λ e. in-row refl) (λ e. in-row refl)
-        by (edge-seen.Settles kept next tag false) = in-row refl
+            pick-both (F (RemE k l u v p c)) (eqb tag added) _ _ (λ e. in-row refl tt) (λ e. in-row refl tt)
+        by (edge-seen.Settles kept next tag false) = in-row refl tt

@@ -28,13 +28,13 @@ module _ (C : Catalogue) (x front back : ℕ) where
       by : (z : VertexFound) → F (ConV k c) (decide-contains k z)
       by found.Torn = tt
       by (found.Onward next) = refl
-      by found.Found = in-row refl
-      by found.Missing = in-row refl
+      by found.Found = in-row refl tt
+      by found.Missing = in-row refl tt
 
   lost : (pl : Place) (code : ℕ) → F pl (Reply (not-found code) Nothing)
   unfolding not-found
   lost pl code =
-      pick-both (λ n. F pl (Reply n Nothing)) (eqb code 6) 8 3 (λ e. in-row refl) (λ e. in-row refl)
+      pick-both (λ n. F pl (Reply n Nothing)) (eqb code 6) 8 3 (λ e. in-row refl tt) (λ e. in-row refl tt)
 
   pub finds-u : (pl : Place) (code : ℕ) (k l : ℤ) (c : ℕ) → F pl (step-find-u C code k l c)
   unfolding step-find-u found-u

@@ -1,9 +1,10 @@
 -- What a decision tells of the place at which it was made. Assumes nothing.
-use Prim.Native.Nat.{ℕ, _<_}
+use Prim.Native.Nat.{ℕ, _<_, _≤_}
 use mathlib.Core.Bool.{Bool, true, false}
 use mathlib.Core.Path.{_≡_, refl}
+use native.Mathlib.Omega.{arith}
 use lib.IntN.{ℤ}
-use lib.Dec.{eqb}
+use lib.Dec.{T, eqb, leb, leb→le}
 use Rattle.catalogue.specs.Tests.{pick}
 use Rattle.catalogue.specs.Numbers.{edge-tail, marked, transit}
 use Rattle.catalogue.specs.Catalogue.{Catalogue, edge-link, edge-target}
@@ -93,14 +94,20 @@ pub data Taken (x front back : ℕ) (pl next : Place) : Type 0 where
 abbrev pub outside : ℕ → Bool
 outside n = pick (eqb n 6) true (pick (eqb n 7) true (eqb n 9))
 
--- a reply in the row, or one of the three with what it tells
+-- a reply in the row, which has one digit as they all have, or one of the three with what it tells
 pub data Told (C : Catalogue) (x front back : ℕ) (pl : Place) (n : ℕ) (write : Write) : Type 0 where
-  in-row : outside n ≡ false → Told C x front back pl n write
+  in-row : outside n ≡ false → T (leb n 9) → Told C x front back pl n write
   lacks : n ≡ 9 → write ≡ Nothing → Lacks C pl → Told C x front back pl n write
   on-trial : n ≡ 7 → write ≡ Nothing → (k l : ℤ) (u v : ℕ) (p : Prev) (c kept next : ℕ) → pl ≡ AddE k l u v p c
       → look-at-edge C l u v p c ≡ edge-seen.Settles kept next transit true → Told C x front back pl n write
   loops : n ≡ 6 → (k l : ℤ) (u v e next old : ℕ) → pl ≡ Trial k l u v e → write ≡ EdgeLink e next marked → edge-link C e ≡ edge.At next old
       → x ≡ u → (front ≡ back → ⊥) → Told C x front back pl n write
+
+pub told-small : {C : Catalogue} {x front back : ℕ} {pl : Place} {n : ℕ} {write : Write} → Told C x front back pl n write → n ≤ 9
+told-small {C} {x} {front} {back} {pl} {n} (in-row a b) = leb→le n 9 b
+told-small (lacks q a b) = omega (arith, q)
+told-small (on-trial q a k l u v p c kept next b d) = omega (arith, q)
+told-small (loops q k l u v e next old a b d f g) = omega (arith, q)
 
 abbrev pub Fate : Catalogue → ℕ → ℕ → ℕ → Place → Decision → Type 0
 Fate C x front back pl Torn = Unit {0}

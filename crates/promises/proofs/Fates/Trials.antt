@@ -35,7 +35,7 @@ module _ (C : Catalogue) (x front back : ℕ) where
 
   withdrawn : (pl : Place) (e : ℕ) (z : BothSeen) (d : Decision) → F pl d → F pl (at-both z Torn (end-trial C e marked 3) d)
   withdrawn pl e both.Torn d f = tt
-  withdrawn pl e both.Dead d f = ends pl e marked 3 (λ next old q. in-row refl)
+  withdrawn pl e both.Dead d f = ends pl e marked 3 (λ next old q. in-row refl tt)
   withdrawn pl e both.Standing d f = f
 
   -- the mark of a vertex
@@ -54,7 +54,7 @@ module _ (C : Catalogue) (x front back : ℕ) where
     tries-shut =
         withdrawn (Trial k l u v e) e (see-trial C front back u v) _
         (pick-both P (eqb front back) _ _
-        (λ b. ends (Trial k l u v e) e added 1 (λ next old q. in-row refl))
+        (λ b. ends (Trial k l u v e) e added 1 (λ next old q. in-row refl tt))
         (λ b. let some = eqb-false front back b in
         pick-both P (eqb x u) _ _
         (λ a. ends (Trial k l u v e) e marked 6 (λ next old q. loops refl k l u v e next old refl refl q (eqb-true x u a) some))

@@ -31,7 +31,7 @@ module _ (C : Catalogue) (x front back : ℕ) where
       → F (AddV k p c) (new-vertex (room most-vertices 2 (C .vertices-out)) k p c)
   full-vertex k p c next q =
       room-both (λ r. F (AddV k p c) (new-vertex r k p c)) most-vertices 2 (C .vertices-out)
-      (λ n. in-row refl) (λ e. lacks refl refl (a-vertex next q e)) tt
+      (λ n. in-row refl tt) (λ e. lacks refl refl (a-vertex next q e)) tt
 
   pub adds-vertex : (k : ℤ) (p c : ℕ) → F (AddV k p c) (step-vertex C 1 k p c)
   unfolding step-vertex settle-vertex settle-add-vertex vertex-place
@@ -42,7 +42,7 @@ module _ (C : Catalogue) (x front back : ℕ) where
       by vertex-seen.Again q = restarts (AddV k p c) 1 k
       by (vertex-seen.Unlinks next) q = refl
       by (vertex-seen.Onward next) q = refl
-      by (vertex-seen.Settles next true) q = in-row refl
+      by (vertex-seen.Settles next true) q = in-row refl tt
       by (vertex-seen.Settles next false) q = full-vertex k p c next q
 
   pub removes-vertex : (k : ℤ) (p c : ℕ) → F (RemV k p c) (step-vertex C 2 k p c)
@@ -54,5 +54,5 @@ module _ (C : Catalogue) (x front back : ℕ) where
       by vertex-seen.Again = restarts (RemV k p c) 2 k
       by (vertex-seen.Unlinks next) = refl
       by (vertex-seen.Onward next) = refl
-      by (vertex-seen.Settles next true) = in-row refl
-      by (vertex-seen.Settles next false) = in-row refl
+      by (vertex-seen.Settles next true) = in-row refl tt
+      by (vertex-seen.Settles next false) = in-row refl tt

@@ -62,7 +62,7 @@ module _ (m : Moment) (w : ℕ) where
 
   by-told : (n : ℕ) (write : Write) → n ≡ 6 → left m w ≡ commit (m .catalogue) write
       → Told (m .catalogue) (front-of r) (r .front) (r .back) (r .place) n write → Six m w
-  by-told n write q z (in-row a) = clash (cc (rw q at a))
+  by-told n write q z (in-row a b) = clash (cc (rw q at a))
   by-told n write q z (lacks a f g) = absurd (omega arith)
   by-told n write q z (on-trial a f k l u v p c kept next g h) = absurd (omega arith)
   by-told n write q z (loops a k l u v e next old is writes link front some) = record {

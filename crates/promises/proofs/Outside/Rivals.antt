@@ -54,7 +54,7 @@ pub record Seven (C : Catalogue) (pl : Place) : Type 0 where
 
 seven : {C : Catalogue} {x front back : ℕ} {pl : Place} {n : ℕ} {write : Write} → n ≡ 7 → Told C x front back pl n write
     → Seven C pl × (write ≡ Nothing)
-seven q (in-row a) = clash (cc (rw q at a))
+seven q (in-row a b) = clash (cc (rw q at a))
 seven q (lacks e f z) = absurd (omega arith)
 seven q (Told.on-trial e f k l u v p c kept next a b) = (record { k = k; l = l; u = u; v = v; p = p; c = c; kept = kept; next = next; is = a; seen = b }, f)
 seven q (loops e k l u v o next old a b c d f) = absurd (omega arith)

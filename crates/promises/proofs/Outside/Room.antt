@@ -30,7 +30,7 @@ use Rattle.promises.proofs.Outside.Replies.{replied-by, replies, unwrit
 -- what is told with 9
 nine : {C : Catalogue} {x front back : ℕ} {pl : Place} {n : ℕ} {write : Write} → n ≡ 9 → Told C x front back pl n write
     → Lacks C pl × (write ≡ Nothing)
-nine q (in-row a) = clash (cc (rw q at a))
+nine q (in-row a b) = clash (cc (rw q at a))
 nine q (lacks e f z) = (z, f)
 nine q (on-trial e f k l u v p c kept next a b) = absurd (omega arith)
 nine q (loops e k l u v o next old a b c d f) = absurd (omega arith)
