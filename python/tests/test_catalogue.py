@@ -81,6 +81,12 @@ class Calls(unittest.TestCase):
         call.finish()
         self.assertEqual((call.met, call.reply), (0, Reply.DONE))
 
+    def test_a_worker_that_took_up_by_the_low_level_layer_can_be_stepped(self):
+        catalogue = Catalogue(workers=1)
+        self.assertEqual(catalogue.lent.take_up(0, 1, 5, 0), 0)
+        self.assertEqual(catalogue.step(0), Reply.DONE)
+        self.assertEqual(catalogue.listing().series, (5,))
+
     def test_met_counts_the_series_that_the_trial_met(self):
         self.catalogue.ask(0, AddDerivation(2, 3))
         with self.catalogue.call(0, AddDerivation(1, 2)) as call:
@@ -141,6 +147,9 @@ class Replies(unittest.TestCase):
     def test_words(self):
         self.assertEqual(Reply(6).meaning, "the derivation would close a loop")
         self.assertEqual(len({reply.meaning for reply in Reply}), 9)
+
+    def test_one_reply_is_done(self):
+        self.assertEqual([reply for reply in Reply if reply.done], [Reply.DONE])
 
 
 class SweepAndListing(unittest.TestCase):
