@@ -13,9 +13,9 @@ use Rattle.catalogue.specs.Writes.{with-vertex-link}
 use Rattle.catalogue.specs.Workers.{idle-table, put}
 use Rattle.catalogue.specs.Answers.{told, made-number, told-listed, told-ran}
 use Rattle.catalogue.specs.Calls.{After, take-up, step}
-use Rattle.catalogue.specs.Sweep.{sweep-into}
-use Rattle.catalogue.specs.Listing.{list-into}
-use Rattle.catalogue.specs.Lent.{Memory, lay, sized, output-fits, lent-take-up, lent-listing, lent-run}
+use Rattle.catalogue.specs.Sweep.{After-sweep, sweep-into}
+use Rattle.catalogue.specs.Listing.{After-listing, list-into}
+use Rattle.catalogue.specs.Lent.{Memory, Lent-call, Lent-run, lay, sized, output-fits, lent-take-up, lent-listing, lent-run}
 use Rattle.catalogue.specs.Runs.{start, after}
 use Rattle.catalogue.specs.Examples.Rows.{bytes, found, call}
 use Rattle.catalogue.specs.Examples.Checked.{on-trial}
@@ -32,23 +32,30 @@ pub data Damaged : Type 0 where
   listing-lent : Memory → List ℕ → ℕ → Damaged
   running : String → Memory → List ℕ → ℕ → ℕ → Damaged
 
--- a call that left catalogue and table as they were, with a number
-abbrev Unchanged : Catalogue → Table → After → ℕ → Type 0
-Unchanged C t a n = (a .catalogue ≡ C) × (a .table ≡ t) × (told (a .answer) .number ≡ n)
+-- What each call leaves of what it was lent, with the number that it tells: computed once, and compared as one.
+unfoldable pub left : After → Catalogue × Table × ℕ
+left a = (a .catalogue, a .table, told (a .answer) .number)
+
+unfoldable pub left-lent : Lent-call → Memory × Table × ℕ
+left-lent a = (a .memory, a .outcome .table, told (a .outcome .answer) .number)
+
+unfoldable pub left-sweep : After-sweep → Catalogue × ℕ
+left-sweep a = (a .second, made-number (a .answer))
+
+unfoldable pub left-listing : After-listing → List ℕ × ℕ
+left-listing a = (a .output, told-listed (a .answer) .number)
+
+unfoldable pub left-run : Lent-run → Memory × List ℕ × ℕ × ℕ
+left-run a = (a .memory, a .output, told-ran (a .answer) .number, told-ran (a .answer) .line)
 
 abbrev pub Refused : Damaged → Type 0
-Refused (taking-up C t w code k l n) = Unchanged C t (take-up C t w code k l) n
-Refused (stepping C t w n) = Unchanged C t (step C t w) n
-Refused (sweeping C D t n) = (sweep-into C D t .second ≡ D) × (made-number (sweep-into C D t .answer) ≡ n)
-Refused (listing C output n) = (list-into C output .output ≡ output) × (told-listed (list-into C output .answer) .number ≡ n)
-Refused (taking-up-lent m t w code k l n) =
-    let a = lent-take-up m t w code k l in
-    (a .memory ≡ m) × (a .outcome .table ≡ t) × (told (a .outcome .answer) .number ≡ n)
-Refused (listing-lent m output n) =
-    (lent-listing m output .output ≡ output) × (told-listed (lent-listing m output .answer) .number ≡ n)
-Refused (running script m output n l) =
-    let a = lent-run (bytes script) m output in
-    (a .memory ≡ m) × (a .output ≡ output) × (told-ran (a .answer) .number ≡ n) × (told-ran (a .answer) .line ≡ l)
+Refused (taking-up C t w code k l n) = left (take-up C t w code k l) ≡ (C, t, n)
+Refused (stepping C t w n) = left (step C t w) ≡ (C, t, n)
+Refused (sweeping C D t n) = left-sweep (sweep-into C D t) ≡ (D, n)
+Refused (listing C output n) = left-listing (list-into C output) ≡ (output, n)
+Refused (taking-up-lent m t w code k l n) = left-lent (lent-take-up m t w code k l) ≡ (m, t, n)
+Refused (listing-lent m output n) = left-listing (lent-listing m output) ≡ (output, n)
+Refused (running script m output n l) = left-run (lent-run (bytes script) m output) ≡ (m, output, n, l)
 
 abbrev pub All-refused : List Damaged → Type 0
 All-refused [] = Unit {0}
@@ -66,6 +73,9 @@ good-output = replicate 65536 0
 
 abbrev short-output : List ℕ
 short-output = replicate 65535 0
+
+abbrev small-output : List ℕ
+small-output = 53 ∷ 10 ∷ []
 
 -- two idle workers; then worker 0 taken up AddV 5
 abbrev idle-two : Table
@@ -89,7 +99,7 @@ left-on-trial = after (start 1) on-trial .catalogue
 abbrev pub table : List Damaged
 table =
     taking-up-lent no-memory idle-two 0 1 (pos 5) (pos 0) 20
-    ∷ listing-lent good-memory short-output 20
+    ∷ listing-lent good-memory small-output 20
     ∷ running "1 0 0\n\n" good-memory short-output 20 0
     ∷ running "1 0 0\n" no-memory good-output 20 0
     ∷ taking-up fresh idle-two 2 1 (pos 5) (pos 0) 21
@@ -109,11 +119,11 @@ table =
     ∷ taking-up torn-head idle-two 0 3 (pos 5) (pos 0) 26
     ∷ stepping fresh torn-ends 1 26
     ∷ sweeping left-on-trial fresh idle-two 26
-    ∷ listing torn-head good-output 26
+    ∷ listing torn-head small-output 26
     ∷ running "1 1 2\n1 05\n0 0\n" good-memory good-output 27 2
     ∷ running "1 0 0\n\n\n" good-memory good-output 27 3
     ∷ []
 
 pub all-refused : All-refused table
-unfolding found after lay sized output-fits lent-take-up lent-listing lent-run list-into table-from
-all-refused = ((refl, refl, refl), ((refl, refl), ((refl, refl, refl, refl), ((refl, refl, refl, refl), ((refl, refl, refl), ((refl, refl, refl), ((refl, refl, refl), ((refl, refl, refl), ((refl, refl), ((refl, refl), ((refl, refl, refl), ((refl, refl, refl), ((refl, refl, refl), ((refl, refl, refl), ((refl, refl, refl), ((refl, refl, refl), ((refl, refl, refl), ((refl, refl, refl), ((refl, refl, refl), ((refl, refl, refl), ((refl, refl), ((refl, refl), ((refl, refl, refl, refl), ((refl, refl, refl, refl), tt))))))))))))))))))))))))
+unfolding found left left-lent left-sweep left-listing left-run after lay sized output-fits lent-take-up lent-listing lent-run list-into table-from
+all-refused = (refl, (refl, (refl, (refl, (refl, (refl, (refl, (refl, (refl, (refl, (refl, (refl, (refl, (refl, (refl, (refl, (refl, (refl, (refl, (refl, (refl, (refl, (refl, (refl, tt))))))))))))))))))))))))
