@@ -22,8 +22,8 @@ use Rattle.catalogue.specs.declared.links.VertexLink.the-variants as vertex
 use Rattle.catalogue.specs.declared.workers.Place.{Place}
 use Rattle.catalogue.specs.declared.workers.Table.{Table}
 use Rattle.catalogue.specs.declared.workers.Worker.{Worker}
-use Rattle.catalogue.proofs.Picks.{both-true}
-use Rattle.catalogue.proofs.Ways.{flag, ways}
+use Rattle.laws.proofs.Picks.{both-true}
+use Rattle.laws.proofs.Ways.{flag, ways}
 use Rattle.memory.proofs.Sizes.{size-flag}
 
 -- ---- what the checks give

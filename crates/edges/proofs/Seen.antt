@@ -12,7 +12,7 @@ use Rattle.catalogue.specs.declared.workers.Prev.{Prev}
 use Rattle.catalogue.specs.declared.writes.Write.{Write}
 use Rattle.catalogue.specs.declared.steps.EdgeSeen.{EdgeSeen}
 use Rattle.catalogue.specs.declared.steps.Decision.{Decision}
-use Rattle.catalogue.proofs.Ways.{ways, on-true, on-false}
+use Rattle.laws.proofs.Ways.{ways, on-true, on-false}
 use Rattle.catalogue.specs.declared.links.EdgeLink.{EdgeLink}
 use Rattle.catalogue.specs.declared.links.Room.{Room}
 use Rattle.catalogue.specs.declared.steps.Decision.the-variants.{Begins, Reply}

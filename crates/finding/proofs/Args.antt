@@ -8,7 +8,7 @@ use Rattle.catalogue.specs.Steps.Places.{find-u-place, find-v-place, edges-plac
 use Rattle.catalogue.specs.declared.workers.Place.{Place}
 use Rattle.catalogue.specs.declared.steps.VertexFound.{VertexFound}
 use Rattle.catalogue.specs.declared.steps.Decision.{Decision}
-use Rattle.catalogue.proofs.Ways.{arg}
+use Rattle.laws.proofs.Ways.{arg}
 use Rattle.looks.proofs.Args.{arg₂}
 
 pub look-for-arg : (C : Catalogue) (k : ℤ) (c : ℕ) (k′ : ℤ) (r : VertexFound) → r ≡ look-for C k′ c → k′ ≡ k → r ≡ look-for C k c

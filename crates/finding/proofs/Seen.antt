@@ -9,8 +9,8 @@ use Rattle.catalogue.specs.Catalogue.{Catalogue}
 use Rattle.catalogue.specs.Steps.Finding.{decide-contains, decide-find-u, decide-find-v}
 use Rattle.catalogue.specs.declared.steps.VertexFound.{VertexFound}
 use Rattle.catalogue.specs.declared.steps.Decision.{Decision}
-use Rattle.catalogue.proofs.Ways.{ways, on-true, on-false, vertex-at, vertex-torn, edge-at, edge-torn, target-at, target-torn, both-torn, both-dead, both-standing}
-use Rattle.catalogue.proofs.Pools.{edge-in-pool}
+use Rattle.laws.proofs.Ways.{ways, on-true, on-false, vertex-at, vertex-torn, edge-at, edge-torn, target-at, target-torn, both-torn, both-dead, both-standing}
+use Rattle.laws.proofs.Pools.{edge-in-pool}
 use Rattle.looks.proofs.Seen.{by, going-to, replied, eqb-arm}
 use Rattle.finding.proofs.Args.{look-for-arg, found-u-arg, found-v-arg, find-u-place-arg, find-v-place-arg, edges-place-arg}
 

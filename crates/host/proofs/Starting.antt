@@ -18,7 +18,7 @@ use Rattle.catalogue.specs.declared.links.VertexLink.the-variants.{At, Torn}
 use Rattle.catalogue.specs.declared.workers.Place.{Place}
 use Rattle.catalogue.specs.declared.workers.Worker.{Worker}
 use Rattle.calls.proofs.Outcomes.{worker-below, taken-room, taken-up, flags}
-use Rattle.catalogue.proofs.Ways.{on-true, on-false, vertex-at, vertex-torn}
+use Rattle.laws.proofs.Ways.{on-true, on-false, vertex-at, vertex-torn}
 use Rattle.host.specs.Kept.{worker-in, table-in, put-record, record-at, slot}
 use Rattle.host.specs.Packing.{packed-answer}
 use Rattle.host.specs.Promised.{Takes-up, Takes-up-one}

@@ -22,7 +22,7 @@ use Rattle.catalogue.specs.declared.workers.Worker.{Worker}
 use Rattle.catalogue.specs.declared.workers.Table.{Table}
 use Rattle.catalogue.specs.declared.steps.Decision.{Decision}
 use Rattle.catalogue.specs.declared.steps.Decision.the-variants as decision
-use Rattle.catalogue.proofs.Leads.{vertex-next-in}
+use Rattle.laws.proofs.Leads.{vertex-next-in}
 use Rattle.memory.proofs.Laid.{length-keys, length-words}
 use Rattle.memory.proofs.Agrees.{Agree, agree-laid, lay-agree, commit-agree}
 use Rattle.lent.proofs.Agrees.{vertex-link-same}

@@ -2,7 +2,7 @@
 use Prim.Native.Nat.{ℕ, zero, suc}
 use mathlib.Core.List.{List, [], _∷_}
 use lib.ListN.{getD, set, replicate}
-use Rattle.catalogue.proofs.Members.{All}
+use Rattle.laws.proofs.Members.{All}
 
 module _ {A : Type 0} (P : A → Type 0) where
   -- behind the end, of what stands for an entry there

@@ -3,7 +3,7 @@ use mathlib.Core.Bool.{Bool}
 use mathlib.Core.List.{List, [], _∷_}
 use mathlib.Core.Path.{_≡_, refl}
 use Rattle.catalogue.specs.Tests.{keep, every}
-use Rattle.catalogue.proofs.Members.{All}
+use Rattle.laws.proofs.Members.{All}
 
 module _ {A : Type 0} where
   pub keep-same : (test test′ : A → Bool) (l : List A) → All (λ x. test x ≡ test′ x) l → keep test l ≡ keep test′ l

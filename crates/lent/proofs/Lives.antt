@@ -8,10 +8,10 @@ use Rattle.catalogue.specs.Tests.{keep}
 use Rattle.catalogue.specs.Numbers.{head, tail, edge-tail, vertex-pool, edge-pool}
 use Rattle.catalogue.specs.Catalogue.{Catalogue}
 use Rattle.catalogue.specs.Live.{walk, next-vertex, first-edge, next-edge, vertices, edges-of, unmarked, is-added, is-live, live-vertices, live-edges-of, gather}
-use Rattle.catalogue.proofs.Leads.{vertex-goes, edge-goes, first-goes}
-use Rattle.catalogue.proofs.Members.{All, all-each, kept-all, map-same}
-use Rattle.catalogue.proofs.Gathers.{gather-same}
-use Rattle.catalogue.proofs.Walks.{walk-within, walk-same}
+use Rattle.laws.proofs.Leads.{vertex-goes, edge-goes, first-goes}
+use Rattle.laws.proofs.Members.{All, all-each, kept-all, map-same}
+use Rattle.laws.proofs.Gathers.{gather-same}
+use Rattle.laws.proofs.Walks.{walk-within, walk-same}
 use Rattle.lent.proofs.Twins.{twin, Same, pick-twin}
 use Rattle.memory.proofs.Agrees.{Agree}
 use Rattle.lent.proofs.Reading.{vertex-read, mark-read, first-read, edge-read, target-read}

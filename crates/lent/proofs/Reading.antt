@@ -7,9 +7,9 @@ use Rattle.catalogue.specs.Numbers.{vertex-pool, edge-pool, marked}
 use Rattle.catalogue.specs.Catalogue.{Catalogue, vertex-link, first-link, edge-link, edge-target, edge-target-in, at-vertex, at-edge, at-target, at-mark}
 use Rattle.catalogue.specs.declared.links.Target.{Target}
 use Rattle.catalogue.specs.declared.links.Target.the-variants as target
-use Rattle.catalogue.proofs.Picks.{pick-both}
-use Rattle.catalogue.proofs.Leads.{vertex-next-in, edge-next-in, first-next-in}
-use Rattle.catalogue.proofs.Pools.{edge-in-pool}
+use Rattle.laws.proofs.Picks.{pick-both}
+use Rattle.laws.proofs.Leads.{vertex-next-in, edge-next-in, first-next-in}
+use Rattle.laws.proofs.Pools.{edge-in-pool}
 use Rattle.lent.proofs.Twins.{Twin, pick-twin, vertex-twin, edge-twin, target-twin}
 use Rattle.memory.proofs.Agrees.{Agree}
 use Rattle.lent.proofs.Agrees.{vertex-link-same, first-link-same, edge-link-same, edge-target-same}

@@ -9,7 +9,7 @@ use Rattle.catalogue.specs.Numbers.{head}
 use Rattle.catalogue.specs.Catalogue.{Catalogue, vertex-key, edge-key}
 use Rattle.catalogue.specs.Live.{vertices, edges-of, live-vertices, live-edges-of}
 use Rattle.catalogue.specs.Soundness.{Asks, tag-fits, vertex-sound, target-sound, edge-sound, edges-sound, sound}
-use Rattle.catalogue.proofs.Members.{all-each, all-any}
+use Rattle.laws.proofs.Members.{all-each, all-any}
 use Rattle.lent.proofs.Twins.{twin, Same, pick-twin}
 use Rattle.memory.proofs.Agrees.{Agree}
 use Rattle.lent.proofs.Agrees.{vertex-key-same, edge-key-same}

@@ -9,7 +9,7 @@ use mir.Val.{Fits}
 use lib.ListN.{length, length-append}
 use borrow.Author.Needs.{needs}
 use Rattle.catalogue.specs.Live.{gather}
-use Rattle.catalogue.proofs.Gathers.{gather-none, gather-first}
+use Rattle.laws.proofs.Gathers.{gather-none, gather-first}
 use Rattle.survey.proofs.WalkLaws.{falls}
 use Rattle.listing.specs.Walks.{kept-from}
 use Rattle.listing.proofs.Kept.{none-left, at-end, going-on, kept-short}

@@ -7,8 +7,8 @@ use native.Mathlib.Nat.{le-trans}
 use lib.ListN.{length}
 use Rattle.catalogue.specs.Tests.{pick, keep}
 use Rattle.catalogue.specs.Live.{walk}
-use Rattle.catalogue.proofs.Members.{keep-short}
-use Rattle.catalogue.proofs.Walks.{walk-spent, walk-end, walk-on, walk-bounded}
+use Rattle.laws.proofs.Members.{keep-short}
+use Rattle.laws.proofs.Walks.{walk-spent, walk-end, walk-on, walk-bounded}
 use Rattle.listing.specs.Walks.{kept-from}
 
 module _ (next : ℕ → ℕ) (end : ℕ) (test : ℕ → Bool) where

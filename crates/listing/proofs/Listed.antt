@@ -16,7 +16,7 @@ use Rattle.text.specs.Puts.{put-at}
 use Rattle.text.proofs.Runs.{put-then, end-then}
 use Rattle.text.proofs.LineLaws.{length-line}
 use Rattle.listing.specs.Walks.{kept-from, vertex-line, edge-line}
-use Rattle.catalogue.proofs.Gathers.{gather-none, gather-first}
+use Rattle.laws.proofs.Gathers.{gather-none, gather-first}
 use Rattle.survey.proofs.Lives.{live-in-pool}
 use Rattle.survey.proofs.WalkLaws.{falls}
 use Rattle.listing.proofs.Kept.{none-left, at-end, going-on}

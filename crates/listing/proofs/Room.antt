@@ -17,10 +17,10 @@ use Rattle.catalogue.specs.Listing.{Reply-line, reply-numbers, contents, added-
 use Rattle.catalogue.specs.Live.{gather, live-vertices, live-edges-of}
 use Rattle.catalogue.specs.Soundness.{Asks, sound}
 use Rattle.catalogue.specs.Text.{line, lines}
-use Rattle.catalogue.proofs.Picks.{pick-both}
+use Rattle.laws.proofs.Picks.{pick-both}
 use Rattle.text.proofs.LineLaws.{All-short, length-line, length-short}
 use Rattle.text.proofs.Naturals.{natural-short}
-use Rattle.catalogue.proofs.Gathers.{gather-none, gather-first}
+use Rattle.laws.proofs.Gathers.{gather-none, gather-first}
 use Rattle.resting.specs.Sound.{edges-few}
 use Rattle.listing.proofs.Whole.{lines-append}
 use Rattle.listing.proofs.Results.{few-vertices, few-added, text-parts}

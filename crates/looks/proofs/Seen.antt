@@ -6,7 +6,7 @@ use lib.IntN.{ℤ}
 use Rattle.catalogue.specs.declared.workers.Place.{Place}
 use Rattle.catalogue.specs.declared.writes.Write.{Write}
 use Rattle.catalogue.specs.declared.steps.Decision.{Decision}
-use Rattle.catalogue.proofs.Ways.{arg, ways}
+use Rattle.laws.proofs.Ways.{arg, ways}
 use lib.Dec.{eqb}
 use Rattle.catalogue.specs.Numbers.{reserved}
 use Rattle.catalogue.specs.declared.steps.Decision.the-variants.{Going, Reply}

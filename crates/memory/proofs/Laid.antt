@@ -14,7 +14,7 @@ use Rattle.catalogue.specs.Catalogue.{Catalogue}
 use Rattle.catalogue.specs.Lent.{Memory, keys-size, words-size, vertex-count, edge-count, vkeys, ekeys, vlinks, firsts, targets, elinks, view, lay, sized, catalogue-in}
 use Rattle.memory.specs.Memories.{Hold}
 use Rattle.memory.proofs.Sizes.{sized-is}
-use Rattle.catalogue.proofs.Gathers.{length-table}
+use Rattle.laws.proofs.Gathers.{length-table}
 use Rattle.memory.proofs.Tables.{getD-table, getD-front, getD-behind}
 
 -- where the tables of the words begin, behind the two counts

@@ -8,7 +8,7 @@ use lib.ListN.{length}
 use lib.Dec.{eqb}
 use Prim.Native.Nat.{ℕ}
 use Rattle.catalogue.specs.Lent.{Memory, Sized, keys-size, words-size, memory-of, sized}
-use Rattle.catalogue.proofs.Picks.{both-true}
+use Rattle.laws.proofs.Picks.{both-true}
 
 pub sized-is : (m : Memory) → sized m ≡ true → Sized (m .keys) (m .words)
 unfolding sized

@@ -10,7 +10,7 @@ use lib.Seq.{ext-getD, getD-set-same, getD-set-other, getD-append-add, set-appen
 use lib.Dec.{eqb}
 use borrow.Author.Tests.{eqb-true, eqb-false}
 use Rattle.catalogue.specs.Tests.{pick, upd, table-from}
-use Rattle.catalogue.proofs.Gathers.{length-table}
+use Rattle.laws.proofs.Gathers.{length-table}
 
 module _ {A : Type 0} where
   table-at : (f : ℕ → A) (from n i : ℕ) (d : A) → i < n → getD (table-from f from n) i d ≡ f (from + i)

@@ -12,7 +12,7 @@ use borrow.Author.Tests.{eq-eqb, ne-eqb, lt-ltb, le-ltb, ltb-true, ltb-false}
 use Rattle.catalogue.specs.Tests.{pick}
 use Rattle.catalogue.specs.Numbers.{edge-tail}
 use Rattle.catalogue.specs.Sweep.{Swept-edge, first-of, next-swept-edge, source-at}
-use Rattle.catalogue.proofs.Members.{All, chosen, all-at}
+use Rattle.laws.proofs.Members.{All, chosen, all-at}
 
 -- what a list of swept edges has behind its end
 abbrev pub blank : Swept-edge

@@ -15,12 +15,12 @@ use Rattle.catalogue.specs.Soundness.{Asks, tag-fits, edge-sound, edges-sound, 
 use Rattle.catalogue.specs.Sweep.{Swept-edge, swept-edge, swept-edges, renumbered}
 use Rattle.catalogue.specs.declared.links.Target.{Target}
 use Rattle.catalogue.specs.declared.links.Target.the-variants as target
-use Rattle.catalogue.proofs.Picks.{clash, both-true}
-use Rattle.catalogue.proofs.Rules.{eqZ-eq}
-use Rattle.catalogue.proofs.Leads.{edge-goes, first-goes}
-use Rattle.catalogue.proofs.Members.{All, all-each, all-keep, all-map, all-gather, every-all, keys-kept, member-keep}
-use Rattle.catalogue.proofs.Keys.{Rising, rising-keep}
-use Rattle.catalogue.proofs.Walks.{Climbs, walk-rising, walk-under, walk-within}
+use Rattle.laws.proofs.Picks.{clash, both-true}
+use Rattle.laws.proofs.Rules.{eqZ-eq}
+use Rattle.laws.proofs.Leads.{edge-goes, first-goes}
+use Rattle.laws.proofs.Members.{All, all-each, all-keep, all-map, all-gather, every-all, keys-kept, member-keep}
+use Rattle.laws.proofs.Keys.{Rising, rising-keep}
+use Rattle.laws.proofs.Walks.{Climbs, walk-rising, walk-under, walk-within}
 use Rattle.resting.specs.Places.{place-two, place-from, place-below, place-reads}
 use Rattle.resting.specs.Sound.{edge-rises, whole, met, lists-sound}
 

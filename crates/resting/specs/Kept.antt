@@ -16,10 +16,10 @@ use Rattle.catalogue.specs.Soundness.{Asks, sound}
 use Rattle.catalogue.specs.Sweep.{swept}
 use Rattle.catalogue.specs.Text.{lines}
 use Rattle.catalogue.specs.Listing.{vertex-lines, edge-lines, added-edges}
-use Rattle.catalogue.proofs.Pools.{live-added}
-use Rattle.catalogue.proofs.Members.{All, all-each, keep-all}
+use Rattle.laws.proofs.Pools.{live-added}
+use Rattle.laws.proofs.Members.{All, all-each, keep-all}
 use Rattle.resting.specs.Rows.{row, all-row}
-use Rattle.catalogue.proofs.Gathers.{gather-same}
+use Rattle.laws.proofs.Gathers.{gather-same}
 use Rattle.resting.specs.Sound.{edges-few}
 use Rattle.resting.specs.Vertices.{live-few}
 use Rattle.resting.specs.Shape.{vertices-row, live-row, unmarked-at, each-vertex}

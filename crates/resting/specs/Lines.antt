@@ -10,9 +10,9 @@ use Rattle.catalogue.specs.Live.{edges-of, is-live, live-vertices, live-edges-o
 use Rattle.catalogue.specs.Soundness.{Asks, sound}
 use Rattle.catalogue.specs.Sweep.{swept}
 use Rattle.catalogue.specs.Listing.{vertex-lines, edge-lines}
-use Rattle.catalogue.proofs.Members.{keep-all}
+use Rattle.laws.proofs.Members.{keep-all}
 use Rattle.resting.specs.Rows.{row, numbered, gather-row}
-use Rattle.catalogue.proofs.Gathers.{gather-length}
+use Rattle.laws.proofs.Gathers.{gather-length}
 use Rattle.resting.specs.Shape.{live-row, keys-row}
 use Rattle.resting.specs.Shares.{start, edges-row, edge-keys-row, number-key}
 use Rattle.resting.specs.Targets.{list-live}

@@ -9,8 +9,8 @@ use lib.Dec.{eqb}
 use borrow.Author.Tests.{eqb-true, eq-eqb, ne-eqb}
 use Rattle.catalogue.specs.Tests.{pick, member}
 use Rattle.catalogue.specs.Sweep.{position}
-use Rattle.catalogue.proofs.Picks.{clash}
-use Rattle.catalogue.proofs.Members.{All, chosen}
+use Rattle.laws.proofs.Picks.{clash}
+use Rattle.laws.proofs.Members.{All, chosen}
 
 module _ (y : ℕ) where
   pub goes : (x : ℕ) (l : List ℕ) (from : ℕ) → position y (x ∷ l) from ≡ pick (eqb y x) from (position y l (suc from))

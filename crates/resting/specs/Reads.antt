@@ -13,7 +13,7 @@ use Rattle.catalogue.specs.Sweep.{swept-edges, swept, first-of, next-swept, nex
 use Rattle.catalogue.specs.declared.links.VertexLink.the-variants as vertex
 use Rattle.catalogue.specs.declared.links.EdgeLink.the-variants as edge
 use Rattle.catalogue.specs.declared.links.Target.the-variants as target
-use Rattle.catalogue.proofs.Picks.{pick-both}
+use Rattle.laws.proofs.Picks.{pick-both}
 use Rattle.resting.specs.Links.{link-apart}
 use Rattle.resting.specs.Edges.{new-keys}
 use Rattle.resting.specs.Blocks.{blank}

@@ -21,11 +21,11 @@ use Rattle.catalogue.specs.declared.links.VertexLink.{VertexLink}
 use Rattle.catalogue.specs.declared.links.VertexLink.the-variants as vertex
 use Rattle.catalogue.specs.declared.links.EdgeLink.{EdgeLink}
 use Rattle.catalogue.specs.declared.links.EdgeLink.the-variants as edge
-use Rattle.catalogue.proofs.Picks.{clash}
-use Rattle.catalogue.proofs.Rules.{eqZ-refl}
-use Rattle.catalogue.proofs.Members.{All, all-each, all-join, all-every, all-parts}
-use Rattle.catalogue.proofs.Keys.{risen, ≤ℤ-<ℤ-trans}
-use Rattle.catalogue.proofs.Walks.{Climbs, climbs}
+use Rattle.laws.proofs.Picks.{clash}
+use Rattle.laws.proofs.Rules.{eqZ-refl}
+use Rattle.laws.proofs.Members.{All, all-each, all-join, all-every, all-parts}
+use Rattle.laws.proofs.Keys.{risen, ≤ℤ-<ℤ-trans}
+use Rattle.laws.proofs.Walks.{Climbs, climbs}
 use Rattle.resting.specs.Rows.{row, all-row, member-row}
 use Rattle.resting.specs.Sound.{edges-few, lists-sound}
 use Rattle.resting.specs.Vertices.{live-few, live-over, live-rising, live-under}

@@ -10,9 +10,9 @@ use lib.Seq.{append-snoc}
 use borrow.Author.Tests.{eqb-false, lt-ltb, le-ltb}
 use Rattle.catalogue.specs.Tests.{pick, member, table-from}
 use Rattle.catalogue.specs.Live.{gather}
-use Rattle.catalogue.proofs.Picks.{pick-both}
-use Rattle.catalogue.proofs.Members.{All}
-use Rattle.catalogue.proofs.Walks.{Ends}
+use Rattle.laws.proofs.Picks.{pick-both}
+use Rattle.laws.proofs.Members.{All}
+use Rattle.laws.proofs.Walks.{Ends}
 
 -- so many numbers from one on
 abbrev pub row : ℕ → ℕ → List ℕ

@@ -13,9 +13,9 @@ use Rattle.catalogue.specs.Live.{next-vertex, vertices, unmarked, live-vertices
 use Rattle.catalogue.specs.Soundness.{Asks, sound}
 use Rattle.catalogue.specs.Sweep.{swept, next-swept}
 use Rattle.catalogue.specs.declared.links.VertexLink.{VertexLink}
-use Rattle.catalogue.proofs.Gathers.{length-table}
-use Rattle.catalogue.proofs.Members.{All, keep-all}
-use Rattle.catalogue.proofs.Walks.{Ends, run-walk}
+use Rattle.laws.proofs.Gathers.{length-table}
+use Rattle.laws.proofs.Members.{All, keep-all}
+use Rattle.laws.proofs.Walks.{Ends, run-walk}
 use Rattle.resting.specs.Rows.{row, all-row, map-row, row-ends, numbered, each-row}
 use Rattle.resting.specs.Vertices.{live-few}
 use Rattle.resting.specs.Edges.{new-keys}

@@ -17,17 +17,17 @@ use Rattle.catalogue.specs.Soundness.{Asks, sound}
 use Rattle.catalogue.specs.Sweep.{Swept-edge, swept-edge, swept-edges, swept, renumbered, position, next-swept-edge}
 use Rattle.catalogue.specs.declared.links.EdgeLink.{EdgeLink}
 use Rattle.catalogue.specs.declared.links.EdgeLink.the-variants as edge
-use Rattle.catalogue.proofs.Picks.{pick-both}
-use Rattle.catalogue.proofs.Members.{All, all-each, all-any, all-join, all-parts, all-map, all-gather, all-member}
-use Rattle.catalogue.proofs.Distinct.{Distinct, distinct-parts}
-use Rattle.catalogue.proofs.Walks.{Ends, run-walk}
+use Rattle.laws.proofs.Picks.{pick-both}
+use Rattle.laws.proofs.Members.{All, all-each, all-any, all-join, all-parts, all-map, all-gather, all-member}
+use Rattle.laws.proofs.Distinct.{Distinct, distinct-parts}
+use Rattle.laws.proofs.Walks.{Ends, run-walk}
 use Rattle.resting.specs.Rows.{row, map-row, row-ends}
 use Rattle.resting.specs.Places.{place-front, place-apart}
 use Rattle.resting.specs.Blocks.{blank, From, Elsewhere, Together, first-there, stands, next-there}
 use Rattle.resting.specs.Sound.{edges-few}
 use Rattle.resting.specs.Vertices.{live-distinct}
 use Rattle.resting.specs.Edges.{new-keys}
-use Rattle.catalogue.proofs.Gathers.{length-table, gather-append, gather-length}
+use Rattle.laws.proofs.Gathers.{length-table, gather-append, gather-length}
 use Rattle.resting.specs.Reads.{vertex-key-at, edge-key-at, first-at, edge-at}
 
 module _ (C : Catalogue) where

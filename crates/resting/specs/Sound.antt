@@ -17,9 +17,9 @@ use Rattle.catalogue.specs.declared.links.VertexLink.{VertexLink}
 use Rattle.catalogue.specs.declared.links.VertexLink.the-variants as vertex
 use Rattle.catalogue.specs.declared.links.EdgeLink.{EdgeLink}
 use Rattle.catalogue.specs.declared.links.EdgeLink.the-variants as edge
-use Rattle.catalogue.proofs.Picks.{clash, both-true}
-use Rattle.catalogue.proofs.Members.{All, every-all}
-use Rattle.catalogue.proofs.Keys.{rises}
+use Rattle.laws.proofs.Picks.{clash, both-true}
+use Rattle.laws.proofs.Members.{All, every-all}
+use Rattle.laws.proofs.Keys.{rises}
 
 -- a test of a link that came out true
 pub link-rises : (low : ℤ) (key : ℕ → ℤ) (l : VertexLink) → at-vertex l false (λ next tag. ltZ low (key next)) ≡ true → low <ℤ key (at-vertex l tail (λ next tag. next))

@@ -14,7 +14,7 @@ use Rattle.catalogue.specs.Live.{edges-of, live-vertices, live-edges-of, gather
 use Rattle.catalogue.specs.Soundness.{Asks, sound}
 use Rattle.catalogue.specs.Sweep.{swept}
 use Rattle.resting.specs.Rows.{row, row-append}
-use Rattle.catalogue.proofs.Gathers.{gather-append}
+use Rattle.laws.proofs.Gathers.{gather-append}
 use Rattle.resting.specs.Shares.{start, edges-row}
 
 -- the live vertex in whose list an edge number stands, with those before and behind it

@@ -13,7 +13,7 @@ use Rattle.catalogue.specs.Live.{edges-of, unmarked, is-added, is-live, live-ve
 use Rattle.catalogue.specs.Soundness.{Asks, sound}
 use Rattle.catalogue.specs.Sweep.{swept-edges, swept}
 use Rattle.catalogue.specs.declared.links.Target.the-variants as target
-use Rattle.catalogue.proofs.Members.{All, all-at}
+use Rattle.laws.proofs.Members.{All, all-at}
 use Rattle.resting.specs.Rows.{all-row}
 use Rattle.resting.specs.Vertices.{live-few}
 use Rattle.resting.specs.Edges.{Aimed, all-aimed}

@@ -10,11 +10,11 @@ use Rattle.catalogue.specs.Numbers.{head, tail, vertex-pool, most-vertices, gre
 use Rattle.catalogue.specs.Catalogue.{Catalogue, vertex-key, vertex-key-in, vertex-link}
 use Rattle.catalogue.specs.Live.{next-vertex, vertices, unmarked, live-vertices}
 use Rattle.catalogue.specs.Soundness.{Asks, vertex-sound, sound}
-use Rattle.catalogue.proofs.Leads.{vertex-goes}
-use Rattle.catalogue.proofs.Members.{All, all-each, all-join, kept-all, map-all, keys-kept}
-use Rattle.catalogue.proofs.Keys.{Rising, rising-keep, rising-distinct}
-use Rattle.catalogue.proofs.Distinct.{Distinct, pigeons}
-use Rattle.catalogue.proofs.Walks.{Climbs, walk-above, walk-rising, walk-under, walk-within}
+use Rattle.laws.proofs.Leads.{vertex-goes}
+use Rattle.laws.proofs.Members.{All, all-each, all-join, kept-all, map-all, keys-kept}
+use Rattle.laws.proofs.Keys.{Rising, rising-keep, rising-distinct}
+use Rattle.laws.proofs.Distinct.{Distinct, pigeons}
+use Rattle.laws.proofs.Walks.{Climbs, walk-above, walk-rising, walk-under, walk-within}
 use Rattle.resting.specs.Sound.{link-rises, vertices-sound}
 
 module _ (asks : Asks) (C : Catalogue) (s : sound asks C ≡ true) where

@@ -9,9 +9,9 @@ use lib.Signed.{_<ℤ_, ltZ-yes}
 use borrow.Author.Tests.{eq-eqb}
 use native.Mathlib.Omega.{arith}
 use Rattle.catalogue.specs.Tests.{upd}
-pub use Rattle.catalogue.proofs.Picks.{clash}
-pub use Rattle.catalogue.proofs.Cases.{same?, lt-or, upd-at, upd-other}
-pub use Rattle.catalogue.proofs.Keys.{<ℤ-trans, rises as ltZ-true}
+pub use Rattle.laws.proofs.Picks.{clash}
+pub use Rattle.laws.proofs.Cases.{same?, lt-or, upd-at, upd-other}
+pub use Rattle.laws.proofs.Keys.{<ℤ-trans, rises as ltZ-true}
 
 -- ---- function update
 

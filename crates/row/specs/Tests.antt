@@ -5,8 +5,8 @@ use mathlib.Core.Logic.{_⊎_, inl, inr}
 use lib.IntN.{ℤ}
 use lib.Signed.{_<ℤ_, ltZ}
 use Rattle.catalogue.specs.Tests.{eqZ}
-use Rattle.catalogue.proofs.Rules.{eqZ-refl, eqZ-eq}
-use Rattle.catalogue.proofs.Picks.{clash}
+use Rattle.laws.proofs.Rules.{eqZ-refl, eqZ-eq}
+use Rattle.laws.proofs.Picks.{clash}
 use Rattle.row.specs.Base.{Tri, below, equal, above, tri}
 
 pub eqZ-yes : (a b : ℤ) → a ≡ b → eqZ a b ≡ true

@@ -21,7 +21,7 @@ use Rattle.catalogue.specs.declared.answers.Answer.the-variants.{Going, Reply, 
 use Rattle.catalogue.specs.declared.workers.Place.{Place}
 use Rattle.catalogue.specs.declared.workers.Place.the-variants.{Idle, AddV, RemV, ConV, AddEFindU, RemEFindU, ConEFindU, AddEFindV, RemEFindV, ConEFindV, AddE, RemE, ConE, Trial, TrialOpen}
 use Rattle.catalogue.specs.declared.workers.Request.{Request}
-use Rattle.catalogue.proofs.Picks.{pick-both}
+use Rattle.laws.proofs.Picks.{pick-both}
 use Rattle.memory.proofs.Agrees.{agree-laid}
 use Rattle.lent.proofs.Calls.{step-alike, take-up-alike}
 use Rattle.lent.proofs.Ranges.{Table-in-range}

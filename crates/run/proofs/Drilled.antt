@@ -19,7 +19,7 @@ use Rattle.catalogue.specs.Lent.{Memory, Sized, memory-of, output-size, output-
 use Rattle.catalogue.specs.declared.answers.Refusal.{Refusal}
 use Rattle.catalogue.specs.declared.script.Ran.{Ran}
 use Rattle.catalogue.specs.declared.script.Ran.the-variants as ran
-use Rattle.catalogue.proofs.Picks.{clash}
+use Rattle.laws.proofs.Picks.{clash}
 use Rattle.text.specs.Puts.{put-at}
 use Rattle.text.proofs.Runs.{put-then, length-put-at}
 use Rattle.text.proofs.Naturals.{natural-short}

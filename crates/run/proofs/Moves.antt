@@ -23,7 +23,7 @@ use Rattle.catalogue.specs.declared.workers.Place.{Place}
 use Rattle.catalogue.specs.declared.workers.Request.{Request}
 use Rattle.catalogue.specs.declared.workers.Table.{Table}
 use Rattle.catalogue.specs.declared.workers.Worker.{Worker}
-use Rattle.catalogue.proofs.Picks.{clash, pick-both, vertex-both}
+use Rattle.laws.proofs.Picks.{clash, pick-both, vertex-both}
 use Rattle.promises.proofs.Fates.Any.{reply-small}
 use Rattle.run.proofs.Owed.{one, owed, owed-set}
 

@@ -17,7 +17,7 @@ use Rattle.catalogue.specs.Run.{Running, shares, turn, play, run}
 use Rattle.catalogue.specs.Tests.{every}
 use Rattle.catalogue.specs.Text.{lines}
 use Rattle.catalogue.specs.Workers.{idle-table}
-use Rattle.catalogue.proofs.Picks.{both-true}
+use Rattle.laws.proofs.Picks.{both-true}
 use Rattle.memory.specs.Memories.{Hold}
 use Rattle.memory.proofs.Laid.{length-keys, length-words}
 use Rattle.script.specs.Checks.{Is-script, script-in, turns-from}

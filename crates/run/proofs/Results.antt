@@ -18,7 +18,7 @@ use Rattle.catalogue.specs.Script.{Script, bad, good, read-script}
 use Rattle.catalogue.specs.Soundness.{sound, listing}
 use Rattle.catalogue.specs.declared.answers.Refusal.the-variants as refusal
 use Rattle.catalogue.specs.declared.script.Ran.the-variants.{Written, Refused, BadScript}
-use Rattle.catalogue.proofs.Picks.{clash}
+use Rattle.laws.proofs.Picks.{clash}
 use Rattle.memory.proofs.Agrees.{Agree, agree-laid}
 use Rattle.lent.proofs.Listings.{text-same}
 use Rattle.lent.proofs.Lives.{live-edges-same, live-gathered}

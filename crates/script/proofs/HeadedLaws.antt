@@ -9,7 +9,7 @@ use lib.ListN.{length, take, drop, replicate}
 use Rattle.catalogue.specs.Tests.{given}
 use Rattle.catalogue.specs.Numbers.{most-workers}
 use Rattle.catalogue.specs.Script.{Header, next-line, words, all-of, natural, header-of, read-header, sum, most-requests, most-turns}
-use Rattle.catalogue.proofs.Picks.{clash}
+use Rattle.laws.proofs.Picks.{clash}
 use Rattle.script.specs.Words.{behind}
 use Rattle.script.specs.Lines.{line-in, line-at}
 use Rattle.script.specs.Headers.{Numbered, header-parts, told, numbered, header-line}

@@ -11,7 +11,7 @@ use borrow.Author.Tests.{le-leb, eq-eqb, leb-true, eqb-true}
 use Rattle.catalogue.specs.Tests.{pick, given, one-to}
 use Rattle.catalogue.specs.Numbers.{most-workers}
 use Rattle.catalogue.specs.Script.{Header, header-of, header-fits, sum, unsnoc, put-first, most-requests, most-turns}
-use Rattle.catalogue.proofs.Picks.{clash, both-true, pick-some}
+use Rattle.laws.proofs.Picks.{clash, both-true, pick-some}
 use Rattle.script.proofs.Tools.{none-if}
 
 -- ---- the members before the last, and the last

@@ -21,7 +21,7 @@ use Rattle.script.specs.declared.numbers.Number.{Number}
 use Rattle.script.specs.declared.numbers.Number.the-variants as number
 use Rattle.script.specs.declared.keys.Key.{Key}
 use Rattle.script.specs.declared.keys.Key.the-variants.{Bad, More, Last}
-use Rattle.catalogue.proofs.Cases.{lt-or}
+use Rattle.laws.proofs.Cases.{lt-or}
 use Rattle.script.proofs.Tools.{same-or}
 use Rattle.script.proofs.NumberLaws.{word-none, word-end, word-space, word-more}
 

@@ -10,7 +10,7 @@ use lib.Seq.{drop-drop}
 use borrow.Author.Tests.{eq-eqb, ne-eqb}
 use Rattle.catalogue.specs.Tests.{pick, given}
 use Rattle.catalogue.specs.Script.{next-line, split, grow}
-use Rattle.catalogue.proofs.Picks.{clash}
+use Rattle.laws.proofs.Picks.{clash}
 use Rattle.script.specs.Words.{Word, next-word, longer, behind, Item, tested, item-in, item-at}
 use Rattle.script.specs.Lines.{line-in, words-at}
 use Rattle.script.proofs.Tools.{same-or}

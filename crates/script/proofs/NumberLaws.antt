@@ -13,7 +13,7 @@ use lib.Seq.{drop-cons}
 use borrow.Author.Tests.{le-leb, lt-leb, eq-eqb, ne-eqb}
 use borrow.Author.Needs.{zero≤}
 use Rattle.catalogue.specs.Tests.{pick}
-use Rattle.catalogue.proofs.Picks.{clash, pick-both}
+use Rattle.laws.proofs.Picks.{clash, pick-both}
 use Rattle.catalogue.specs.Script.{value, natural}
 use Rattle.script.specs.Words.{Word, next-word, longer, behind, tested, item-in, as-number, most-number, number-fits, number-by, number-at, rest-at, zero-at, none-left}
 use Rattle.script.specs.declared.numbers.Number.{Number}

@@ -11,7 +11,7 @@ use borrow.Author.Tests.{eq-eqb, ne-eqb}
 use Rattle.catalogue.specs.Tests.{given}
 use Rattle.catalogue.specs.Script.{Read, bad, good, and-then, next-line, read-line, read-request, read-requests}
 use Rattle.catalogue.specs.declared.workers.Request.{Request}
-use Rattle.catalogue.proofs.Picks.{clash}
+use Rattle.laws.proofs.Picks.{clash}
 use Rattle.script.specs.Words.{behind}
 use Rattle.script.specs.Lines.{line-in, line-at, as-line, request-at}
 use Rattle.script.specs.Shares.{at-request, at-skipped, skip-at}

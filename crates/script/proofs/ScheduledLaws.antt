@@ -17,7 +17,7 @@ use Rattle.script.specs.Turns.{scheduled}
 use Rattle.script.specs.declared.numbers.Number.{Number}
 use Rattle.script.specs.declared.numbers.Number.the-variants as number
 use Rattle.script.specs.declared.turns.After.the-variants.{Bad}
-use Rattle.catalogue.proofs.Cases.{lt-or}
+use Rattle.laws.proofs.Cases.{lt-or}
 use Rattle.script.proofs.Tools.{same-or, none-or, every-none, every-pair, all-end, all-pair}
 use Rattle.script.proofs.LineLaws.{words-none, not-found, item-last, item-more}
 use Rattle.script.proofs.ItemLaws.{number-more-found, number-last-found, number-not-found}

@@ -7,7 +7,7 @@ use lib.Seq.{take-at, drop-at}
 use Rattle.catalogue.specs.Script.{Read, bad, good, and-then, sum}
 use Rattle.catalogue.specs.Run.{shares}
 use Rattle.catalogue.specs.declared.workers.Request.{Request}
-use Rattle.catalogue.proofs.Picks.{clash}
+use Rattle.laws.proofs.Picks.{clash}
 use Rattle.script.specs.Shares.{at-skipped, skip-at, starts-at}
 use Rattle.script.specs.Checks.{requests-at, shares-at}
 use Rattle.script.specs.declared.shares.Skipped.{Skipped}

@@ -10,7 +10,7 @@ use lib.ListN.{length, drop}
 use borrow.Author.Tests.{eqb-true}
 use Rattle.catalogue.specs.Tests.{pick, given, every}
 use Rattle.catalogue.specs.Script.{next-line, words, all-of, natural, read-schedule}
-use Rattle.catalogue.proofs.Picks.{clash, pick-some}
+use Rattle.laws.proofs.Picks.{clash, pick-some}
 use Rattle.script.specs.Words.{behind, number-at}
 use Rattle.script.specs.Lines.{line-in, line-at, words-at}
 use Rattle.script.specs.Turns.{as-after, schedule-at, scheduled, turn-of}

@@ -13,7 +13,7 @@ use borrow.Author.Tests.{lt-ltb, le-ltb, le-leb, lt-leb}
 use Rattle.catalogue.specs.Tests.{pick, given}
 use Rattle.catalogue.specs.Script.{Script, Header, Read, bad, good, and-then, read-header, read-schedule, read-line, ended, read-lines, read-script, sum, script-limit}
 use Rattle.catalogue.specs.declared.workers.Request.{Request}
-use Rattle.catalogue.proofs.Picks.{clash}
+use Rattle.laws.proofs.Picks.{clash}
 use Rattle.script.specs.Lines.{line-at}
 use Rattle.script.specs.Headers.{told, numbered, header-line}
 use Rattle.script.specs.Shares.{at-skipped, skip-at, starts-at, onto, starts-told}
@@ -27,7 +27,7 @@ use Rattle.script.specs.declared.turns.After.{After}
 use Rattle.script.specs.declared.turns.After.the-variants as after
 use Rattle.script.specs.declared.checks.Verdict.the-variants.{Good, Bad}
 use Rattle.script.specs.declared.checks.Checked.{Checked}
-use Rattle.catalogue.proofs.Cases.{lt-or}
+use Rattle.laws.proofs.Cases.{lt-or}
 use Rattle.script.proofs.ReadLaws.{line-read, skip-read}
 use Rattle.script.proofs.StartLaws.{skipped-of, starts-skip, starts-first, starts-shares}
 use Rattle.script.proofs.TurnReads.{turns-read, turns-manned}

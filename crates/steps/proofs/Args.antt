@@ -11,7 +11,7 @@ use Rattle.catalogue.specs.Steps.Contains.{step-contains-edge}
 use Rattle.catalogue.specs.Steps.Trial.{trial-shut, trial-open}
 use Rattle.catalogue.specs.declared.workers.Prev.{Prev}
 use Rattle.catalogue.specs.declared.steps.Decision.{Decision}
-use Rattle.catalogue.proofs.Ways.{arg}
+use Rattle.laws.proofs.Ways.{arg}
 use Rattle.looks.proofs.Args.{arg₂}
 
 pub step-vertex-arg : (C : Catalogue) (code : ℕ) (k : ℤ) (p : ℕ) (c : ℕ) (k′ : ℤ) (r : Decision) → r ≡ step-vertex C code k′ p c → k′ ≡ k → r ≡ step-vertex C code k p c

@@ -18,7 +18,7 @@ use Rattle.catalogue.specs.declared.writes.Write.{Write}
 use Rattle.catalogue.specs.declared.steps.Decision.{Decision}
 use Rattle.catalogue.specs.declared.steps.Decision.the-variants.{Meets, Takes}
 use Rattle.steps.specs.Follows.{Follows}
-use Rattle.catalogue.proofs.Ways.{on-true, on-false}
+use Rattle.laws.proofs.Ways.{on-true, on-false}
 use Rattle.steps.proofs.Args.{step-args}
 
 pub at-place : (C : Catalogue) (p q : Place) (met : List ℕ) (x front back : ℕ) (r : Decision) → p ≡ q → r ≡ step-at C q met x front back → r ≡ step-at C p met x front back

@@ -38,9 +38,9 @@ use Rattle.catalogue.specs.declared.steps.EdgeSeen.{EdgeSeen}
 use Rattle.catalogue.specs.declared.steps.EdgeSeen.the-variants as sees
 use Rattle.catalogue.specs.declared.steps.Decision.{Decision}
 use Rattle.catalogue.specs.declared.steps.Decision.the-variants.{Torn}
-use Rattle.catalogue.proofs.Picks.{clash, pick-both, vertex-both, edge-both, target-both}
+use Rattle.laws.proofs.Picks.{clash, pick-both, vertex-both, edge-both, target-both}
 use Rattle.steps.specs.Follows.{Follows}
-use Rattle.catalogue.proofs.Pools.{edge-in-pool, Handed, handed}
+use Rattle.laws.proofs.Pools.{edge-in-pool, Handed, handed}
 
 -- what follows from the look at u and v, and from a mark
 both-both : {A : Type 0} (P : A → Type 0) (l : BothSeen) (torn dead standing : A) → P torn → P dead → (l ≡ both.Standing → P standing) → P (at-both l torn dead standing)

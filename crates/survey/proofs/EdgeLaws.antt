@@ -14,9 +14,9 @@ use Rattle.catalogue.specs.Live.{walk, first-edge, next-edge, edges-of, is-live
 use Rattle.catalogue.specs.Soundness.{Asks, edge-sound, edges-sound}
 use Rattle.catalogue.specs.declared.links.EdgeLink.{EdgeLink}
 use Rattle.catalogue.specs.declared.links.EdgeLink.the-variants as edge
-use Rattle.catalogue.proofs.Picks.{pick-both}
-use Rattle.catalogue.proofs.Members.{keep-short}
-use Rattle.catalogue.proofs.Walks.{walk-spent, walk-end, walk-on, walk-bounded}
+use Rattle.laws.proofs.Picks.{pick-both}
+use Rattle.laws.proofs.Members.{keep-short}
+use Rattle.laws.proofs.Walks.{walk-spent, walk-end, walk-on, walk-bounded}
 use Rattle.survey.proofs.Pools.{edge-on, first-to}
 use Rattle.survey.proofs.WalkLaws.{falls}
 use Rattle.survey.specs.Walks.{counted, edges-from, edges-at}

@@ -14,8 +14,8 @@ use Rattle.catalogue.specs.Numbers.{tail, most-edges}
 use Rattle.catalogue.specs.Catalogue.{Catalogue}
 use Rattle.catalogue.specs.Live.{walk, next-vertex, unmarked, live-edges-of, gather}
 use Rattle.catalogue.specs.Soundness.{Asks, edges-sound}
-use Rattle.catalogue.proofs.Picks.{clash}
-use Rattle.catalogue.proofs.Walks.{walk-spent, walk-end, walk-on}
+use Rattle.laws.proofs.Picks.{clash}
+use Rattle.laws.proofs.Walks.{walk-spent, walk-end, walk-on}
 use Rattle.survey.proofs.EdgeLaws.{at-most}
 use Rattle.survey.proofs.WalkLaws.{falls}
 use Rattle.survey.specs.Walks.{within, edges-at, lists-from}

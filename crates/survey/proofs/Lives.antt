@@ -7,8 +7,8 @@ use Rattle.catalogue.specs.Numbers.{edge-pool}
 use Rattle.catalogue.specs.Catalogue.{Catalogue}
 use Rattle.catalogue.specs.Live.{is-added, is-live}
 use Rattle.survey.specs.Walks.{linked}
-use Rattle.catalogue.proofs.Ways.{flag, ways}
-use Rattle.catalogue.proofs.Pools.{added-in, live-added}
+use Rattle.laws.proofs.Ways.{flag, ways}
+use Rattle.laws.proofs.Pools.{added-in, live-added}
 
 live-in : (C : Catalogue) (e : ℕ) → is-live C e ≡ true → e < edge-pool
 live-in C e h = added-in C e (live-added C e h)

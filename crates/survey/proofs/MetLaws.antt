@@ -15,11 +15,11 @@ use Rattle.catalogue.specs.Lent.{Sized, catalogue-in}
 use Rattle.catalogue.specs.Live.{walk, next-vertex, vertices}
 use Rattle.catalogue.specs.Soundness.{vertex-sound}
 use Rattle.catalogue.specs.Workers.{has, with-met}
-use Rattle.catalogue.proofs.Picks.{both-true, pick-both}
-use Rattle.catalogue.proofs.Leads.{vertex-goes}
-use Rattle.catalogue.proofs.Members.{All, all-each}
-use Rattle.catalogue.proofs.Walks.{walk-within}
-use Rattle.workers.proofs.MetLaws.{with-met-same, with-met-other, none-met}
+use Rattle.laws.proofs.Picks.{both-true, pick-both}
+use Rattle.laws.proofs.Leads.{vertex-goes}
+use Rattle.laws.proofs.Members.{All, all-each}
+use Rattle.laws.proofs.Walks.{walk-within}
+use Rattle.laws.proofs.MetLaws.{with-met-same, with-met-other, none-met}
 use Rattle.survey.specs.Walks.{also-met, met-of, found, walk-from, Ready}
 use Rattle.survey.specs.declared.walks.Walked.{Walked}
 

@@ -5,7 +5,7 @@ use Rattle.catalogue.specs.Numbers.{edge-tail}
 use Rattle.catalogue.specs.Catalogue.{edge-link-in, first-link-in, at-edge}
 use Rattle.catalogue.specs.declared.links.EdgeLink.{EdgeLink}
 use Rattle.catalogue.specs.declared.links.EdgeLink.the-variants as edge
-use Rattle.catalogue.proofs.Leads.{edge-next-in, first-next-in, edge-goes}
+use Rattle.laws.proofs.Leads.{edge-next-in, first-next-in, edge-goes}
 
 -- a link that the code took apart
 module _ (words : ℕ → ℕ) (n next tag : ℕ) (r : EdgeLink) where

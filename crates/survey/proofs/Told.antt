@@ -14,7 +14,7 @@ use Rattle.catalogue.specs.Workers.{has}
 use Rattle.catalogue.specs.Soundness.{sweep, tag-fits}
 use Rattle.survey.proofs.Pools.{edge-to}
 use Rattle.survey.specs.Walks.{asks-of, Ready}
-use Rattle.catalogue.proofs.Ways.{ways, ltZ-read, eqZ-read-true, eqZ-read-false}
+use Rattle.laws.proofs.Ways.{ways, ltZ-read, eqZ-read-true, eqZ-read-false}
 
 -- a call's answer was tested
 module _ {A : Type 0} (x : A) (t r : Bool) (a b : A) (e : r ≡ t) where

@@ -12,7 +12,7 @@ use Rattle.catalogue.specs.Catalogue.{Catalogue}
 use Rattle.catalogue.specs.Live.{walk, next-vertex}
 use Rattle.catalogue.specs.Soundness.{vertex-sound}
 use Rattle.catalogue.specs.Workers.{has, with-met}
-use Rattle.catalogue.proofs.Walks.{walk-spent, walk-end, walk-on}
+use Rattle.laws.proofs.Walks.{walk-spent, walk-end, walk-on}
 use Rattle.survey.specs.Walks.{also-met, met-of, found, walk-from}
 use Rattle.survey.specs.declared.walks.Walked.{Walked}
 

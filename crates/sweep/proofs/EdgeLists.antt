@@ -13,8 +13,8 @@ use Rattle.catalogue.specs.Live.{gather}
 use Rattle.catalogue.specs.Lent.{lay}
 use Rattle.catalogue.specs.Sweep.{Swept-edge, first-of, source-at}
 use Rattle.catalogue.specs.declared.writes.Write.the-variants.{EdgeLink, NewFirst, NewEdge}
-use Rattle.catalogue.proofs.Members.{all-each, all-any, all-append, all-map}
-use Rattle.catalogue.proofs.Cases.{same?, upd-at, upd-other}
+use Rattle.laws.proofs.Members.{all-each, all-any, all-append, all-map}
+use Rattle.laws.proofs.Cases.{same?, upd-at, upd-other}
 use Rattle.resting.specs.Rows.{Numbered}
 use Rattle.sweep.specs.Built.{committed, edge-write, with-edge, with-edges, with-lists}
 use Rattle.memory.proofs.Agrees.{Agree, lay-agree, committed-lay}

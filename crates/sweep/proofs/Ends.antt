@@ -6,7 +6,7 @@ use mathlib.Core.Path.{_≡_, sym, _∙_}
 use native.Mathlib.Omega.{arith}
 use lib.ListN.{length, getD}
 use Rattle.catalogue.specs.Tests.{upd}
-use Rattle.catalogue.proofs.Cases.{same?, upd-at, upd-other}
+use Rattle.laws.proofs.Cases.{same?, upd-at, upd-other}
 
 pub getD-end : {A : Type 0} (l : List A) (v d : A) (n i : ℕ) → n ≡ length l → getD (l ++ (v ∷ [])) i d ≡ upd (λ k. getD l k d) n v i
 getD-end [] v d n zero e = sym (upd-at (λ k. getD [] k d) n v 0 (sym e))

@@ -8,8 +8,8 @@ use borrow.Author.Tests.{eq-eqb, ne-eqb}
 use lib.ListN.{length}
 use Rattle.catalogue.specs.Numbers.{edge-tail}
 use Rattle.catalogue.specs.Sweep.{Swept-edge, first-of}
-use Rattle.catalogue.proofs.Cases.{same?}
-use Rattle.catalogue.proofs.Members.{all-each}
+use Rattle.laws.proofs.Cases.{same?}
+use Rattle.laws.proofs.Members.{all-each}
 use Rattle.resting.specs.Blocks.{sees, passes}
 use Rattle.sweep.proofs.Sources.{Below}
 

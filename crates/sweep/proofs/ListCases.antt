@@ -10,7 +10,7 @@ use lib.ListN.{length, length-append}
 use Rattle.catalogue.specs.Lent.{Memory}
 use Rattle.catalogue.specs.Live.{gather}
 use Rattle.listing.specs.Walks.{kept-from}
-use Rattle.catalogue.proofs.Gathers.{gather-first}
+use Rattle.laws.proofs.Gathers.{gather-first}
 use Rattle.sweep.specs.Built.{with-edges, with-lists}
 use Rattle.sweep.proofs.Kept.{none-built, end-built, left-built, kept-built}
 

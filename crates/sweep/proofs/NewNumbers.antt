@@ -7,8 +7,8 @@ use borrow.Author.Tests.{eq-eqb, ne-eqb}
 use lib.ListN.{length, set, length-set}
 use lib.Seq.{getD-set-same, getD-set-other}
 use Rattle.catalogue.specs.Sweep.{position}
-use Rattle.catalogue.proofs.Members.{All, all-each, all-join}
-use Rattle.catalogue.proofs.Distinct.{Distinct}
+use Rattle.laws.proofs.Members.{All, all-each, all-join}
+use Rattle.laws.proofs.Distinct.{Distinct}
 use Rattle.resting.specs.Rows.{Numbered}
 use Rattle.resting.specs.Places.{goes}
 use Rattle.sweep.specs.Built.{numbered, number-of}

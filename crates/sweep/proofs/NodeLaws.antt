@@ -12,7 +12,7 @@ use Rattle.catalogue.specs.Writes.{commit}
 use Rattle.catalogue.specs.Lent.{lay, memory-of, catalogue-in}
 use Rattle.catalogue.specs.declared.writes.Write.{Write}
 use Rattle.catalogue.specs.declared.writes.Write.the-variants.{NewVertex, EdgeLink, NewFirst, NewEdge}
-use Rattle.catalogue.proofs.Picks.{pick-both}
+use Rattle.laws.proofs.Picks.{pick-both}
 use Rattle.memory.specs.Memories.{Hold, Writable}
 use Rattle.sweep.specs.Built.{committed, last-vertex, vertex-write, edge-write, with-edge}
 

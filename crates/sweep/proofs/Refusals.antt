@@ -17,7 +17,7 @@ use Rattle.catalogue.specs.declared.answers.Refusal.{Refusal}
 use Rattle.catalogue.specs.declared.answers.Refusal.the-variants as refusal
 use Rattle.catalogue.specs.declared.answers.Made.{Made}
 use Rattle.catalogue.specs.declared.answers.Made.the-variants.{Done, Refused}
-use Rattle.catalogue.proofs.Picks.{both-true}
+use Rattle.laws.proofs.Picks.{both-true}
 use Rattle.memory.proofs.Laid.{view-held}
 use Rattle.sweep.specs.Promised.{Sweeps}
 use Rattle.sweep.proofs.NodeLaws.{held}

@@ -14,8 +14,8 @@ use Rattle.catalogue.specs.Sweep.{renumbered, swept-edge, swept-edges, swept}
 use Rattle.catalogue.specs.Lent.{Memory, memory-of, catalogue-in, lay}
 use Rattle.catalogue.specs.declared.links.Target.{Target}
 use Rattle.catalogue.specs.declared.links.Target.the-variants as target
-use Rattle.catalogue.proofs.Members.{All, all-each, all-join, all-of, map-same}
-use Rattle.catalogue.proofs.Gathers.{gather-same}
+use Rattle.laws.proofs.Members.{All, all-each, all-join, all-of, map-same}
+use Rattle.laws.proofs.Gathers.{gather-same}
 use Rattle.resting.specs.Sound.{lists-sound, edges-few}
 use Rattle.resting.specs.Vertices.{live-distinct, live-within, live-few}
 use Rattle.resting.specs.Edges.{Lives, live-target, targets-live}

@@ -10,8 +10,8 @@ use lib.Dec.{eqb}
 use Rattle.catalogue.specs.Tests.{pick, upd}
 use Rattle.catalogue.specs.Numbers.{edge-tail, added, link}
 use Rattle.catalogue.specs.Sweep.{Swept-edge, source-at, next-swept-edge}
-use Rattle.catalogue.proofs.Members.{All, all-at, all-map}
-use Rattle.catalogue.proofs.Cases.{lt-or, upd-at, upd-other}
+use Rattle.laws.proofs.Members.{All, all-at, all-map}
+use Rattle.laws.proofs.Cases.{lt-or, upd-at, upd-other}
 use Rattle.sweep.proofs.Ends.{getD-end}
 use Rattle.sweep.proofs.Swept.{elink-of}
 

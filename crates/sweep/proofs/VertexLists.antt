@@ -15,7 +15,7 @@ use Rattle.catalogue.specs.Catalogue.{fresh}
 use Rattle.catalogue.specs.Writes.{commit}
 use Rattle.catalogue.specs.Lent.{lay}
 use Rattle.catalogue.specs.Sweep.{first-of, next-swept}
-use Rattle.catalogue.proofs.Cases.{same?, lt-or, upd-at, upd-other}
+use Rattle.laws.proofs.Cases.{same?, lt-or, upd-at, upd-other}
 use Rattle.sweep.specs.Built.{last-vertex, vertex-write, with-vertices}
 use Rattle.memory.proofs.Agrees.{Agree, lay-agree, committed-lay}
 use Rattle.sweep.proofs.Ends.{getD-end}

@@ -6,9 +6,9 @@ use mathlib.Core.Path.{_≡_, refl, sym, _∙_}
 use mir.Facts.{toZ-ofZ}
 use borrow.Author.Needs.{sfits-of}
 use borrow.Author.Tests.{eq-eqb, ne-eqb, le-leb, lt-leb}
-use Rattle.catalogue.proofs.Ways.{ways, on-true, on-false}
+use Rattle.laws.proofs.Ways.{ways, on-true, on-false}
 use Rattle.catalogue.specs.Workers.{has}
-use Rattle.catalogue.proofs.Pools.{edge-in-pool}
+use Rattle.laws.proofs.Pools.{edge-in-pool}
 use Rattle.trial.proofs.Args.{pass-edge-arg, cross-arg, step-open-arg, take-front-arg, step-shut-arg}
 
 -- a flag that a callee gave

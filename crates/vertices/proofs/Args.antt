@@ -9,7 +9,7 @@ use Rattle.catalogue.specs.Steps.Places.{vertex-place}
 use Rattle.catalogue.specs.declared.workers.Place.{Place}
 use Rattle.catalogue.specs.declared.steps.VertexSeen.{VertexSeen}
 use Rattle.catalogue.specs.declared.steps.Decision.{Decision}
-use Rattle.catalogue.proofs.Ways.{arg}
+use Rattle.laws.proofs.Ways.{arg}
 
 pub see-vertex-arg : (C : Catalogue) (k : ℤ) (c : ℕ) (k′ : ℤ) (r : VertexSeen) → r ≡ see-vertex C k′ c → k′ ≡ k → r ≡ see-vertex C k c
 see-vertex-arg C k c k′ r = arg (λ k. see-vertex C k c) r k k′

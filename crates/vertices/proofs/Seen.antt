@@ -9,9 +9,9 @@ use Rattle.catalogue.specs.Catalogue.{Catalogue}
 use Rattle.catalogue.specs.Steps.Vertices.{decide-vertex, new-vertex}
 use Rattle.catalogue.specs.declared.steps.VertexSeen.{VertexSeen}
 use Rattle.catalogue.specs.declared.steps.Decision.{Decision}
-use Rattle.catalogue.proofs.Ways.{ways, on-true, on-false, vertex-at, vertex-torn}
+use Rattle.laws.proofs.Ways.{ways, on-true, on-false, vertex-at, vertex-torn}
 use Rattle.catalogue.specs.declared.links.Room.{Room}
-use Rattle.catalogue.proofs.Pools.{vertex-in-pool}
+use Rattle.laws.proofs.Pools.{vertex-in-pool}
 use Rattle.looks.proofs.Seen.{by, going-same, going-to, eqb-arm}
 use Rattle.vertices.proofs.Args.{see-vertex-arg, look-at-vertex-arg, start-again-arg, settle-add-vertex-arg, settle-vertex-arg, vertex-place-arg}
 

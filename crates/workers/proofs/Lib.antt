@@ -1,5 +1,3 @@
--- Laws of the met set, of places and of the queue.
-pub mod Bits
-pub mod MetLaws
+-- Laws of places and of the queue.
 pub mod PlaceLaws
 pub mod QueueLaws

@@ -10,7 +10,7 @@ use borrow.Author.Tests.{eq-eqb}
 use lib.Dec.{eqb}
 use types.Run.{OneOf}
 use denote.Enum.Declared.{tagOf}
-use Rattle.catalogue.proofs.Picks.{pick-both}
+use Rattle.laws.proofs.Picks.{pick-both}
 use Rattle.catalogue.proofs.workers.Place.{the-type}
 use Rattle.catalogue.specs.Tests.{member}
 use Rattle.catalogue.specs.Workers.{busy-at, request-of}

@@ -13,7 +13,7 @@ use Rattle.catalogue.specs.Live.{edges-of}
 use Rattle.catalogue.specs.Runs.{steps, Moment, choose, after}
 use Rattle.catalogue.specs.Workers.{worker-at}
 use Rattle.catalogue.specs.declared.answers.Answer.the-variants.{Reply}
-use Rattle.catalogue.proofs.Picks.{clash}
+use Rattle.laws.proofs.Picks.{clash}
 use Rattle.row.specs.Base.{upd-at, upd-other, same?}
 use Rattle.row.specs.Machine.Runs
 use Rattle.row.specs.Machine.World

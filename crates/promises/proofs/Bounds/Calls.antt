@@ -8,7 +8,7 @@ use Rattle.catalogue.specs.Calls.{After}
 use Rattle.catalogue.specs.Runs.{Moment}
 use Rattle.catalogue.specs.Workers.{bare}
 use Rattle.catalogue.specs.Steps.Places.{first-place}
-use Rattle.catalogue.proofs.Picks.{clash}
+use Rattle.laws.proofs.Picks.{clash}
 use Rattle.row.specs.Base.{upd-at}
 use Rattle.row.specs.Machine.Vertices.{addV, remV, conV}
 use Rattle.row.specs.Machine.World.{World, Ask, vert, addE, remE, conE, Spot}

@@ -7,7 +7,7 @@ use native.Mathlib.Omega.{arith}
 use lib.ListN.{length}
 use lib.Signed.{_<ℤ_}
 use Rattle.catalogue.specs.Live.{walk}
-use Rattle.catalogue.proofs.Walks.{walk-end, walk-step}
+use Rattle.laws.proofs.Walks.{walk-end, walk-step}
 use Rattle.row.specs.Lists.Edges.{at, Mine}
 use Rattle.row.specs.Machine.World.{World, Opened, closed, opened}
 use Rattle.row.specs.Graphs.Good.{WGood}

@@ -10,7 +10,7 @@ use lib.IntN.{ℤ}
 use lib.Signed.{ltZ, <ℤ-irrefl}
 use Rattle.catalogue.specs.Tests.{eqZ}
 use Rattle.catalogue.specs.Numbers.{greatest}
-use Rattle.catalogue.proofs.Picks.{clash}
+use Rattle.laws.proofs.Picks.{clash}
 use Rattle.row.specs.Base.{<ℤ-trans, ltZ-true}
 use Rattle.row.specs.Machine.Vertices.{ConV, going, replies}
 use Rattle.row.specs.Lists.Edges.{at, Mine}

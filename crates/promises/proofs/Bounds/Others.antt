@@ -8,7 +8,7 @@ use Rattle.catalogue.specs.Calls.{After, count-fits, take-up, step}
 use Rattle.catalogue.specs.Runs.{Choice, takes, steps, sweeps, Moment, choose}
 use Rattle.catalogue.specs.Sweep.{After-sweep, sweep-into, any-busy}
 use Rattle.catalogue.specs.Workers.{busy}
-use Rattle.catalogue.proofs.Picks.{pick-both, clash}
+use Rattle.laws.proofs.Picks.{pick-both, clash}
 use Rattle.row.specs.Base.{upd-other}
 use Rattle.row.specs.Machine.Runs
 use Rattle.row.specs.Machine.Runs.{Conf, act}

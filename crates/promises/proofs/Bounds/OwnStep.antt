@@ -10,7 +10,7 @@ use Rattle.catalogue.specs.Runs.{Moment}
 use Rattle.catalogue.specs.Workers.{busy}
 use Rattle.catalogue.specs.declared.answers.Answer.{Answer}
 use Rattle.catalogue.specs.declared.answers.Answer.the-variants as answer
-use Rattle.catalogue.proofs.Picks.{clash}
+use Rattle.laws.proofs.Picks.{clash}
 use Rattle.row.specs.Machine.Runs
 use Rattle.row.specs.Machine.Moves.{move}
 use Rattle.row.specs.Machine.Runs.{Conf}

@@ -7,8 +7,8 @@ use lib.Dec.{eqb, leb}
 use lib.IntN.{ℤ}
 use lib.Signed.{_<ℤ_, ltZ, <ℤ-irrefl}
 use Rattle.catalogue.specs.Tests.{pick}
-use Rattle.catalogue.proofs.Keys.{risen}
-use Rattle.catalogue.proofs.Rules.{not-true-false}
+use Rattle.laws.proofs.Keys.{risen}
+use Rattle.laws.proofs.Rules.{not-true-false}
 use Rattle.row.specs.Base.{<ℤ-trans, ltZ-true}
 use Rattle.row.specs.Lists.Edges.{InList}
 use Rattle.row.specs.Tests.{and-true}

@@ -9,7 +9,7 @@ use borrow.Author.Tests.{eqb-true}
 use Rattle.catalogue.specs.Tests.{pick, upd}
 use Rattle.catalogue.specs.Runs.{Choice, takes, steps, sweeps, Moment, choose}
 use Rattle.catalogue.specs.Workers.{worker-at, busy}
-use Rattle.catalogue.proofs.Picks.{clash}
+use Rattle.laws.proofs.Picks.{clash}
 use Rattle.row.specs.Base.{lt-or, upd-at}
 use Rattle.row.specs.Machine.Runs
 use Rattle.row.specs.Machine.Moves.{move}

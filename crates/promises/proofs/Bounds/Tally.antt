@@ -9,7 +9,7 @@ use native.Mathlib.Omega.{arith}
 use borrow.Author.Tests.{eqb-true, eqb-false}
 use lib.Dec.{eqb}
 use lib.IntN.{ℤ}
-use Rattle.catalogue.proofs.Picks.{clash}
+use Rattle.laws.proofs.Picks.{clash}
 use Rattle.row.specs.Base.{upd-at, upd-other, same?}
 use Rattle.row.specs.Lists.Edges.{marked, at, Mine, is-marked, retag}
 use Rattle.row.specs.Machine.World.{World, with-e, Opened, closed, opened, Hunt, stands-at, meets, took, Trial, Next, goes, says}

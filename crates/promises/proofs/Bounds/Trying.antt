@@ -9,7 +9,7 @@ use lib.Dec.{eqb, leb}
 use lib.IntN.{ℤ}
 use Rattle.catalogue.specs.Tests.{pick, upd}
 use Rattle.catalogue.specs.Workers.{count}
-use Rattle.catalogue.proofs.Picks.{clash}
+use Rattle.laws.proofs.Picks.{clash}
 use Rattle.row.specs.Tests.{or-false}
 use Rattle.row.specs.Base.{upd-at, upd-true}
 use Rattle.row.specs.Lists.Edges.{marked, at, Mine, is-marked, retag}

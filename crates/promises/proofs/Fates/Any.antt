@@ -12,7 +12,7 @@ use Rattle.catalogue.specs.declared.workers.Place.{Place}
 use Rattle.catalogue.specs.declared.workers.Place.the-variants.{Idle, AddV, RemV, ConV, AddEFindU, RemEFindU, ConEFindU, AddEFindV, RemEFindV, ConEFindV, AddE, RemE, ConE, Trial, TrialOpen}
 use Rattle.catalogue.specs.declared.workers.Worker.{Worker}
 use Rattle.catalogue.specs.declared.writes.Write.{Write}
-use Rattle.catalogue.proofs.Picks.{pick-both}
+use Rattle.laws.proofs.Picks.{pick-both}
 use Rattle.promises.proofs.Fates.Told.{Fate, told-small}
 use Rattle.promises.proofs.Fates.Vertices.{adds-vertex, removes-vertex}
 use Rattle.promises.proofs.Fates.Finding.{contains, finds-u, finds-v}

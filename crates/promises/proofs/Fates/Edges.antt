@@ -22,7 +22,7 @@ use Rattle.catalogue.specs.declared.workers.Place.{Place}
 use Rattle.catalogue.specs.declared.workers.Place.the-variants.{AddE, RemE, ConE}
 use Rattle.catalogue.specs.declared.workers.Prev.{Prev}
 use Rattle.catalogue.specs.declared.writes.Write.the-variants.{Nothing}
-use Rattle.catalogue.proofs.Picks.{pick-both, edge-both, target-both}
+use Rattle.laws.proofs.Picks.{pick-both, edge-both, target-both}
 use Rattle.promises.specs.Outside.{an-edge}
 use Rattle.promises.proofs.Showing.Pools.{room-both}
 use Rattle.promises.proofs.Fates.Told.{Fate, in-row, lacks, on-trial}

@@ -13,7 +13,7 @@ use Rattle.catalogue.specs.declared.steps.VertexFound.the-variants as found
 use Rattle.catalogue.specs.declared.workers.Place.{Place}
 use Rattle.catalogue.specs.declared.workers.Place.the-variants.{ConV}
 use Rattle.catalogue.specs.declared.writes.Write.the-variants.{Nothing}
-use Rattle.catalogue.proofs.Picks.{pick-both, vertex-both, edge-both}
+use Rattle.laws.proofs.Picks.{pick-both, vertex-both, edge-both}
 use Rattle.promises.proofs.Fates.Told.{Fate, in-row}
 use Rattle.promises.proofs.Fates.Places.{to-u, to-v, to-edges}
 

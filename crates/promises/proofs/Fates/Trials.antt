@@ -21,7 +21,7 @@ use Rattle.catalogue.specs.declared.steps.Decision.the-variants.{Torn, Keeps}
 use Rattle.catalogue.specs.declared.workers.Place.{Place}
 use Rattle.catalogue.specs.declared.workers.Place.the-variants.{Trial, TrialOpen}
 use Rattle.catalogue.specs.declared.writes.Write.the-variants.{EdgeLink}
-use Rattle.catalogue.proofs.Picks.{pick-both, edge-both, target-both}
+use Rattle.laws.proofs.Picks.{pick-both, edge-both, target-both}
 use Rattle.promises.proofs.Fates.Told.{Told, Fate, stays, closes, skips, opens, in-row, loops}
 
 module _ (C : Catalogue) (x front back : ℕ) where

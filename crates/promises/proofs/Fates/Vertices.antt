@@ -12,7 +12,7 @@ use Rattle.catalogue.specs.declared.steps.VertexSeen.{VertexSeen}
 use Rattle.catalogue.specs.declared.steps.VertexSeen.the-variants as vertex-seen
 use Rattle.catalogue.specs.declared.workers.Place.{Place}
 use Rattle.catalogue.specs.declared.workers.Place.the-variants.{AddV, RemV}
-use Rattle.catalogue.proofs.Picks.{vertex-both}
+use Rattle.laws.proofs.Picks.{vertex-both}
 use Rattle.promises.specs.Outside.{a-vertex}
 use Rattle.promises.proofs.Showing.Pools.{room-both}
 use Rattle.promises.proofs.Fates.Told.{Fate, in-row, lacks}

@@ -9,7 +9,7 @@ use Rattle.catalogue.specs.Tests.{upd}
 use Rattle.catalogue.specs.Workers.{has, with-met, idle, begun, kept, queued, taken, front-of}
 use Rattle.catalogue.specs.declared.workers.Place.{Place}
 use Rattle.catalogue.specs.declared.workers.Worker.{Worker}
-use Rattle.workers.proofs.MetLaws.{none-met}
+use Rattle.laws.proofs.MetLaws.{none-met}
 use Rattle.row.specs.Machine.World.{Opened, closed, Hunt, hunt-from, stands-at, meets, took}
 use Rattle.promises.specs.Bounds.{total}
 use Rattle.promises.proofs.Showing.Weighing.{weigh-none, weigh-one-more, total-last}

@@ -8,9 +8,9 @@ use native.Mathlib.Omega.{arith}
 use lib.ListN.{length, replicate, length-set}
 use Rattle.catalogue.specs.Tests.{upd}
 use Rattle.catalogue.specs.Workers.{has, with-met, count, met-count}
-use Rattle.catalogue.proofs.Picks.{pick-both}
-use Rattle.workers.proofs.Bits.{count-same}
-use Rattle.workers.proofs.MetLaws.{with-met-same, with-met-other, none-met}
+use Rattle.laws.proofs.Picks.{pick-both}
+use Rattle.laws.proofs.Bits.{count-same}
+use Rattle.laws.proofs.MetLaws.{with-met-same, with-met-other, none-met}
 use Rattle.row.specs.Base.{upd-at, upd-other, same?}
 
 -- ---- counting

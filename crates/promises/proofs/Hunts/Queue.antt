@@ -8,7 +8,7 @@ use native.Mathlib.Numerals.{add-one}
 use lib.ListN.{length, getD, set, take, drop}
 use lib.Seq.{length-take-le, take-suc, take-suc-set, take-set-le, drop-append-le, slice-empty, slice-cons}
 use Rattle.row.specs.Base.{same?}
-use Rattle.catalogue.proofs.Picks.{clash}
+use Rattle.laws.proofs.Picks.{clash}
 
 module _ (queue : List ℕ) (front back : ℕ) (ordered : front ≤ back) where
   pub queue-put : (y : ℕ) → back < length queue → drop front (take (back + 1) (set queue back y)) ≡ drop front (take back queue) ++ (y ∷ [])

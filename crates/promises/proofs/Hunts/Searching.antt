@@ -5,10 +5,10 @@ use mathlib.Core.List.{List, [], _∷_, _++_}
 use mathlib.Core.Logic.{inl, inr}
 use mathlib.Core.Path.{_≡_, refl, sym, ap, _∙_, subst}
 use Rattle.catalogue.specs.Tests.{upd}
-use Rattle.catalogue.proofs.Picks.{clash}
-use Rattle.catalogue.proofs.Rules.{not-true-false}
-use Rattle.catalogue.proofs.Members.{All, all-each, all-join, all-append}
-use Rattle.catalogue.proofs.Distinct.{Distinct, distinct-append}
+use Rattle.laws.proofs.Picks.{clash}
+use Rattle.laws.proofs.Rules.{not-true-false}
+use Rattle.laws.proofs.Members.{All, all-each, all-join, all-append}
+use Rattle.laws.proofs.Distinct.{Distinct, distinct-append}
 use Rattle.row.specs.Base.{upd-at, upd-other, upd-true, same?}
 use Rattle.promises.proofs.Showing.Shows.{Series, Searched}
 

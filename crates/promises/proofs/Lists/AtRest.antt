@@ -15,9 +15,9 @@ use Rattle.catalogue.specs.declared.links.EdgeLink.{EdgeLink}
 use Rattle.catalogue.specs.declared.links.EdgeLink.the-variants as edge
 use Rattle.catalogue.specs.Live.{vertices, edges-of, unmarked, live-vertices, live-edges-of, gather, is-live}
 use Rattle.catalogue.specs.Soundness.{Asks, listing, sweep, tag-fits, vertex-sound, target-sound, edge-sound, edges-sound, sound}
-use Rattle.catalogue.proofs.Members.{All, all-each, all-every, all-gather}
-use Rattle.catalogue.proofs.Distinct.{Distinct, distinct-keep, distinct-gather, pigeons}
-use Rattle.catalogue.proofs.Keys.{risen}
+use Rattle.laws.proofs.Members.{All, all-each, all-every, all-gather}
+use Rattle.laws.proofs.Distinct.{Distinct, distinct-keep, distinct-gather, pigeons}
+use Rattle.laws.proofs.Keys.{risen}
 use Rattle.row.specs.Tests.{eqZ-yes}
 use Rattle.row.specs.Lists.Store.{Stands}
 use Rattle.row.specs.Lists.Edges.{Tag, marked, transit, added, at, Mine, InList}

@@ -4,9 +4,9 @@ use mathlib.Core.List.{List, [], _∷_}
 use mathlib.Core.Path.{_≡_, refl, ap₂}
 use lib.IntN.{ℤ}
 use Rattle.catalogue.specs.Tests.{pick, eqZ}
-use Rattle.catalogue.proofs.Picks.{both-true, pick-both, clash}
-use Rattle.catalogue.proofs.Rules.{eqZ-refl, eqZ-eq}
-use Rattle.catalogue.proofs.Members.{All, all-each}
+use Rattle.laws.proofs.Picks.{both-true, pick-both, clash}
+use Rattle.laws.proofs.Rules.{eqZ-refl, eqZ-eq}
+use Rattle.laws.proofs.Members.{All, all-each}
 use Rattle.promises.specs.Graphs.{same-line, printed}
 
 same-is : (k l : List ℤ) → same-line k l ≡ true → k ≡ l

@@ -8,7 +8,7 @@ use Rattle.catalogue.specs.Tests.{member}
 use Rattle.catalogue.specs.Catalogue.{Catalogue, vertex-key, edge-key}
 use Rattle.catalogue.specs.Live.{live-vertices, live-edges-of}
 use Rattle.catalogue.specs.Listing.{vertex-lines, edge-lines}
-use Rattle.catalogue.proofs.Members.{All, all-each, all-map, map-all, all-gather, gather-all, all-of}
+use Rattle.laws.proofs.Members.{All, all-each, all-map, map-all, all-gather, gather-all, all-of}
 use Rattle.resting.specs.Lines.{lines-of}
 use Rattle.row.specs.Tests.{bool-iff}
 use Rattle.row.specs.Lists.Store.{Stands}

@@ -9,10 +9,10 @@ use lib.Signed.{_<ℤ_, <ℤ-irrefl}
 use Rattle.catalogue.specs.Tests.{pick, member}
 use Rattle.catalogue.specs.Catalogue.{Catalogue}
 use Rattle.catalogue.specs.Live.{walk, next-vertex, first-edge, next-edge, vertices, edges-of, unmarked, is-live, live-vertices, live-edges-of}
-use Rattle.catalogue.proofs.Picks.{clash}
-use Rattle.catalogue.proofs.Members.{All, all-each, all-join, all-keep, map-all, member-keep}
-use Rattle.catalogue.proofs.Distinct.{Distinct}
-use Rattle.catalogue.proofs.Walks.{walk-above, walk-same}
+use Rattle.laws.proofs.Picks.{clash}
+use Rattle.laws.proofs.Members.{All, all-each, all-join, all-keep, map-all, member-keep}
+use Rattle.laws.proofs.Distinct.{Distinct}
+use Rattle.laws.proofs.Walks.{walk-above, walk-same}
 use Rattle.row.specs.Lists.Links.{Run, stop, go, run-tail, run-fold}
 use Rattle.row.specs.Tests.{and-true, not-true}
 use Rattle.row.specs.Lists.Store.{view, Stands}

@@ -9,10 +9,10 @@ use lib.ListN.{length}
 use lib.Signed.{_<ℤ_}
 use Rattle.catalogue.specs.Tests.{member}
 use Rattle.catalogue.specs.Live.{walk}
-use Rattle.catalogue.proofs.Members.{All, all-each, all-member}
-use Rattle.catalogue.proofs.Distinct.{Distinct, pigeons}
-use Rattle.catalogue.proofs.Keys.{rising-distinct}
-use Rattle.catalogue.proofs.Walks.{walk-step, walked, run-walk, Climbs, walk-rising, walk-all}
+use Rattle.laws.proofs.Members.{All, all-each, all-member}
+use Rattle.laws.proofs.Distinct.{Distinct, pigeons}
+use Rattle.laws.proofs.Keys.{rising-distinct}
+use Rattle.laws.proofs.Walks.{walk-step, walked, run-walk, Climbs, walk-rising, walk-all}
 use Rattle.row.specs.Lists.Links.{Run, stop, go}
 
 module _ (next : ℕ → ℕ) (end : ℕ) where

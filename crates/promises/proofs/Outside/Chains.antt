@@ -15,7 +15,7 @@ use Rattle.catalogue.specs.declared.workers.Place.{Place}
 use Rattle.catalogue.specs.declared.workers.Place.the-variants.{Trial, TrialOpen}
 use Rattle.catalogue.specs.declared.workers.Worker.{Worker}
 use Rattle.row.specs.Base.{same?, lt-or}
-use Rattle.catalogue.proofs.Picks.{clash}
+use Rattle.laws.proofs.Picks.{clash}
 use Rattle.promises.specs.Moments.{Given, moment, chosen}
 use Rattle.promises.specs.Outside.{Tries, shut, open-at, Lasts, Crossed, here, cross}
 use Rattle.promises.proofs.Fates.Told.{tries-trying, Kept, stays, closes, Met, Taken, skips, opens}

@@ -9,7 +9,7 @@ use Rattle.catalogue.specs.Live.{edges-of}
 use Rattle.catalogue.specs.Runs.{Moment}
 use Rattle.catalogue.specs.declared.links.EdgeLink.the-variants as edge
 use Rattle.catalogue.specs.declared.workers.Place.the-variants.{TrialOpen}
-use Rattle.catalogue.proofs.Picks.{clash}
+use Rattle.laws.proofs.Picks.{clash}
 use Rattle.row.specs.Lists.Edges.{Tag, marked, transit, added, is-marked, InList}
 use Rattle.row.specs.Machine.World.{World, Opened, closed, opened, Trial}
 use Rattle.row.specs.Machine.Runs.{Conf}

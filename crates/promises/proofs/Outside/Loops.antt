@@ -14,7 +14,7 @@ use Rattle.catalogue.specs.declared.workers.Place.the-variants as place
 use Rattle.catalogue.specs.declared.workers.Worker.{Worker}
 use Rattle.catalogue.specs.declared.writes.Write.{Write}
 use Rattle.catalogue.specs.declared.writes.Write.the-variants.{EdgeLink}
-use Rattle.catalogue.proofs.Picks.{clash}
+use Rattle.laws.proofs.Picks.{clash}
 use Rattle.row.specs.Machine.Vertices
 use Rattle.row.specs.Lists.Edges.{marked, transit, retag}
 use Rattle.row.specs.Machine.World.{World, with-e, Trial, edges}

@@ -17,7 +17,7 @@ use Rattle.catalogue.specs.Steps.Decide.{decide, record-after}
 use Rattle.catalogue.specs.declared.steps.Decision.{Decision}
 use Rattle.catalogue.specs.declared.workers.Table.{Table}
 use Rattle.catalogue.specs.declared.workers.Worker.{Worker}
-use Rattle.catalogue.proofs.Picks.{pick-both, vertex-both}
+use Rattle.laws.proofs.Picks.{pick-both, vertex-both}
 use Rattle.row.specs.Base.{same?}
 use Rattle.promises.proofs.Fates.Told.{trying}
 use Rattle.promises.proofs.Fates.Places.{to-first}

@@ -8,7 +8,7 @@ use lib.IntN.{ℤ}
 use lib.ListN.{length}
 use Rattle.catalogue.specs.Runs.{Choice, Moment}
 use Rattle.catalogue.specs.Workers.{worker-at}
-use Rattle.catalogue.proofs.Picks.{clash}
+use Rattle.laws.proofs.Picks.{clash}
 use Rattle.row.specs.Base.{same?, lt-or}
 use Rattle.row.specs.Machine.World.{World, Trial}
 use Rattle.row.specs.Machine.Runs.{Conf}

@@ -18,7 +18,7 @@ use Rattle.catalogue.specs.declared.workers.Table.{Table}
 use Rattle.catalogue.specs.declared.workers.Worker.{Worker}
 use Rattle.catalogue.specs.declared.writes.Write.{Write}
 use Rattle.catalogue.specs.declared.writes.Write.the-variants.{Nothing}
-use Rattle.catalogue.proofs.Picks.{clash, pick-both}
+use Rattle.laws.proofs.Picks.{clash, pick-both}
 
 module _ (C : Catalogue) (t : Table) (n : ℕ) where
   -- what a decision leaves

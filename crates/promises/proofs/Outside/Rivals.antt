@@ -16,8 +16,8 @@ use Rattle.catalogue.specs.declared.workers.Prev
 use Rattle.catalogue.specs.declared.workers.Worker.{Worker}
 use Rattle.catalogue.specs.declared.writes.Write.{Write}
 use Rattle.catalogue.specs.declared.writes.Write.the-variants.{Nothing}
-use Rattle.catalogue.proofs.Picks.{clash}
-use Rattle.catalogue.proofs.Rules.{eqZ-eq}
+use Rattle.laws.proofs.Picks.{clash}
+use Rattle.laws.proofs.Rules.{eqZ-eq}
 use Rattle.row.specs.Lists.Edges.{Tag, marked, transit, added, Prev, at, link}
 use Rattle.row.specs.Machine.World.{World, LookE, Trial, OnTrial}
 use Rattle.row.specs.Machine.Moves.{ESeen}

@@ -15,7 +15,7 @@ use Rattle.catalogue.specs.declared.workers.Place.the-variants.{AddV, AddE}
 use Rattle.catalogue.specs.declared.workers.Worker.{Worker}
 use Rattle.catalogue.specs.declared.writes.Write.{Write}
 use Rattle.catalogue.specs.declared.writes.Write.the-variants.{Nothing}
-use Rattle.catalogue.proofs.Picks.{clash}
+use Rattle.laws.proofs.Picks.{clash}
 use Rattle.promises.specs.Moments.{at, place-of}
 use Rattle.promises.specs.Outside.{Replies, left, Lacks, a-vertex, an-edge}
 use Rattle.promises.specs.Promises.{NoRoom}

@@ -9,7 +9,7 @@ use Rattle.catalogue.specs.Runs.{Choice}
 use Rattle.catalogue.specs.declared.workers.Place.the-variants.{Idle}
 use Rattle.row.specs.Base.{same?}
 use Rattle.row.specs.Machine.Runs.{conf}
-use Rattle.catalogue.proofs.Picks.{clash}
+use Rattle.laws.proofs.Picks.{clash}
 use Rattle.promises.specs.Moments.{Given, moment, place-of}
 use Rattle.promises.specs.Outside.{Tries, Lasts}
 use Rattle.promises.proofs.Fates.Told.{trying, tries-trying}

@@ -13,7 +13,7 @@ use Rattle.catalogue.specs.Live.{unmarked}
 use Rattle.catalogue.specs.Runs.{Choice, Moment}
 use Rattle.catalogue.specs.declared.links.EdgeLink.the-variants as edge
 use Rattle.catalogue.specs.declared.links.Target.the-variants as target
-use Rattle.catalogue.proofs.Picks.{clash}
+use Rattle.laws.proofs.Picks.{clash}
 use Rattle.row.specs.Base.{same?}
 use Rattle.row.specs.Lists.Store
 use Rattle.row.specs.Tests.{not-true}

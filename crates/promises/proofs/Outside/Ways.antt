@@ -15,7 +15,7 @@ use Rattle.catalogue.specs.declared.workers.Place.{Place}
 use Rattle.catalogue.specs.declared.workers.Place.the-variants.{AddE, Trial}
 use Rattle.catalogue.specs.declared.workers.Prev.{Prev}
 use Rattle.catalogue.specs.declared.workers.Worker.{Worker}
-use Rattle.catalogue.proofs.Picks.{clash}
+use Rattle.laws.proofs.Picks.{clash}
 use Rattle.promises.specs.Moments.{Given, moment, chosen, place-of}
 use Rattle.promises.specs.Outside.{Tries, shut, open-at}
 use Rattle.promises.proofs.Fates.Told.{trying, tries-trying, Begun, Kept, stays, closes, Met, Taken, skips, opens, Fate}

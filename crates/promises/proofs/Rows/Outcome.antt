@@ -6,7 +6,7 @@ use mathlib.Core.Path.{_≡_, refl, sym, ap, _∙_}
 use lib.IntN.{ℤ}
 use Rattle.catalogue.specs.Tests.{pick}
 use Rattle.catalogue.specs.Listing.{edge-lines}
-use Rattle.catalogue.proofs.Picks.{pick-both, clash}
+use Rattle.laws.proofs.Picks.{pick-both, clash}
 use Rattle.promises.specs.Graphs.{Graph, live, Walk}
 use Rattle.promises.specs.Alone.{Ask, AddV, RemV, ConV, AddE, RemE, ConE, with-series, without-series, with-pair, both, Alone, addV-new, addV-there, remV-there, remV-none, conV-there, conV-none, addE-no-end, addE-there, addE-loop, addE-new, remE-no-end, remE-there, remE-none, conE-there, conE-none}
 use Rattle.promises.specs.Promises.{OneAtMost, Outcome, OneOutcome}

@@ -8,7 +8,7 @@ use lib.Dec.{eqb}
 use lib.ListN.{length}
 use Rattle.catalogue.specs.Tests.{pick}
 use Rattle.catalogue.specs.Runs.{Choice}
-use Rattle.catalogue.proofs.Picks.{clash}
+use Rattle.laws.proofs.Picks.{clash}
 use Rattle.row.specs.Rows.Row.{Call, Event, quiet, acts, looks, by}
 use Rattle.row.specs.Rows.Assemble.{assemble}
 use Rattle.row.specs.Tests.{and-true}

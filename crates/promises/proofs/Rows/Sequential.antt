@@ -4,7 +4,7 @@ use mathlib.Core.Bool.{Bool, true, false, cond, _&&_}
 use mathlib.Core.Path.{_≡_, refl, sym, ap, ap₂, _∙_, subst, fun-ext}
 use lib.IntN.{ℤ}
 use Rattle.catalogue.specs.Tests.{pick, eqZ}
-use Rattle.catalogue.proofs.Rules.{eqZ-refl}
+use Rattle.laws.proofs.Rules.{eqZ-refl}
 use Rattle.row.specs.Tests.{cond-or}
 use Rattle.row.specs.Machine.Vertices.{addV, remV, conV, put}
 use Rattle.row.specs.Machine.World.{vert, addE, remE, conE, put-edge, between, alone}

@@ -5,8 +5,8 @@ use mathlib.Core.Logic.{_⊎_, inl, inr}
 use mathlib.Core.Path.{_≡_, refl}
 use lib.IntN.{ℤ}
 use Rattle.catalogue.specs.Tests.{pick, eqZ}
-use Rattle.catalogue.proofs.Picks.{pick-both, clash}
-use Rattle.catalogue.proofs.Rules.{eqZ-refl, eqZ-eq}
+use Rattle.laws.proofs.Picks.{pick-both, clash}
+use Rattle.laws.proofs.Rules.{eqZ-refl, eqZ-eq}
 use Rattle.row.specs.Tests.{same-key?}
 use Rattle.promises.specs.Graphs.{Graph, same-line, printed, Walk, here, over}
 

@@ -15,7 +15,7 @@ use Rattle.catalogue.specs.Numbers.{least, greatest, most-workers}
 use Rattle.catalogue.specs.Steps.Places.{code-known, one-key}
 use Rattle.catalogue.specs.Script.{Script, Read, bad, good, and-then, Header, header-fits, header-of, read-header, key-fits, request-from, request-of-words, read-request, natural, signed, all-of, words, unsnoc, read-line, next-line, read-requests, read-schedule, ended, read-lines, read-script, script-limit, sum}
 use Rattle.catalogue.specs.declared.workers.Request.{Request}
-use Rattle.catalogue.proofs.Picks.{both-true, clash, pick-some}
+use Rattle.laws.proofs.Picks.{both-true, clash, pick-some}
 use Rattle.row.specs.Base.{<ℤ-trans, ltZ-true}
 use Rattle.promises.specs.Moments.{All, none, each, Key}
 use Rattle.promises.specs.Promises.{ScriptsPlayed}

@@ -17,7 +17,7 @@ use Rattle.catalogue.specs.declared.answers.Refusal.the-variants as refusal
 use Rattle.catalogue.specs.declared.answers.Answer.{Answer}
 use Rattle.catalogue.specs.declared.answers.Answer.the-variants as answer
 use Rattle.catalogue.specs.declared.workers.Worker.{Worker}
-use Rattle.catalogue.proofs.Picks.{both-true, clash}
+use Rattle.laws.proofs.Picks.{both-true, clash}
 use Rattle.row.specs.Base.{upd-at, upd-other, same?}
 use Rattle.row.specs.Rows.Row.{Call}
 use Rattle.row.specs.Machine.World.{World, Spot, Rest}

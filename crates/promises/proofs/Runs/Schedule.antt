@@ -10,7 +10,7 @@ use lib.Dec.{ltb}
 use lib.ListN.{getD, take}
 use Rattle.catalogue.specs.Calls.{worker-fits, count-fits, step}
 use Rattle.catalogue.specs.Runs.{Choice, steps, Moment, start, choose, after}
-use Rattle.catalogue.proofs.Picks.{pick-both}
+use Rattle.laws.proofs.Picks.{pick-both}
 use Rattle.row.specs.Machine.Runs.{Conf, act, conf}
 use Rattle.row.specs.Machine.Runs
 use Rattle.promises.specs.Moments.{All, none, each, Keyed, Given, moment, chosen}

@@ -18,7 +18,7 @@ use Rattle.catalogue.specs.declared.steps.Decision.{Decision}
 use Rattle.catalogue.specs.declared.steps.Decision.the-variants as decision
 use Rattle.catalogue.specs.declared.workers.Table.{Table}
 use Rattle.catalogue.specs.declared.workers.Worker.{Worker}
-use Rattle.catalogue.proofs.Picks.{pick-both, clash}
+use Rattle.laws.proofs.Picks.{pick-both, clash}
 use Rattle.row.specs.Rows.Row.{Call}
 use Rattle.row.specs.Machine.World.{World, Spot, Rest}
 use Rattle.row.specs.Machine.Moves.{move}

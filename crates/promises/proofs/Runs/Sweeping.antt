@@ -16,7 +16,7 @@ use Rattle.catalogue.specs.declared.answers.Refusal.{Refusal}
 use Rattle.catalogue.specs.declared.answers.Refusal.the-variants as refusal
 use Rattle.catalogue.specs.declared.answers.Made.the-variants as made
 use Rattle.catalogue.specs.declared.workers.Table.{Table}
-use Rattle.catalogue.proofs.Picks.{clash}
+use Rattle.laws.proofs.Picks.{clash}
 use Rattle.row.specs.Base.{same?, lt-or}
 use Rattle.row.specs.Machine.World
 use Rattle.row.specs.Machine.World.{World, Spot, Rest, Untried, graph}

@@ -19,8 +19,8 @@ use Rattle.catalogue.specs.declared.answers.Refusal.{Refusal}
 use Rattle.catalogue.specs.declared.answers.Refusal.the-variants as refusal
 use Rattle.catalogue.specs.declared.answers.Answer.the-variants as answer
 use Rattle.catalogue.specs.declared.workers.Worker.{Worker}
-use Rattle.catalogue.proofs.Picks.{pick-both, clash, both-true}
-use Rattle.catalogue.proofs.Keys.{risen}
+use Rattle.laws.proofs.Picks.{pick-both, clash, both-true}
+use Rattle.laws.proofs.Keys.{risen}
 use Rattle.row.specs.Tests.{eqZ-yes, not-below}
 use Rattle.row.specs.Machine.Vertices.{addV, remV, conV}
 use Rattle.row.specs.Machine.World.{World, vert, addE, remE, conE}

@@ -11,7 +11,7 @@ use Rattle.catalogue.specs.Writes.{commit, with-first}
 use Rattle.catalogue.specs.Steps.Edges.{relink}
 use Rattle.catalogue.specs.declared.links.EdgeLink.the-variants as edge
 use Rattle.catalogue.specs.declared.writes.Write.the-variants.{EdgeLink}
-use Rattle.catalogue.proofs.Leads.{edge-next-in, first-next-in}
+use Rattle.laws.proofs.Leads.{edge-next-in, first-next-in}
 use Rattle.row.specs.Base.{upd-same, upd-other, same?}
 use Rattle.row.specs.Lists.Edges.{Tag, Prev, head, at, Edges, link, put-first, put-next, eunlink, retag}
 use Rattle.row.specs.Machine.World.{World, with-e}

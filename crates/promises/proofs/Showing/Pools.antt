@@ -9,7 +9,7 @@ use Rattle.catalogue.specs.Numbers.{room}
 use Rattle.catalogue.specs.Catalogue.{Catalogue}
 use Rattle.catalogue.specs.declared.links.Room.{Room}
 use Rattle.catalogue.specs.declared.links.Room.the-variants as room
-use Rattle.catalogue.proofs.Picks.{pick-both}
+use Rattle.laws.proofs.Picks.{pick-both}
 use Rattle.row.specs.Graphs.Good.{WGood}
 use Rattle.row.specs.Graphs.Graph.{IsV}
 use Rattle.row.specs.Lists.Store.{Cat}

@@ -25,8 +25,8 @@ use Rattle.catalogue.specs.declared.workers.Prev.the-variants as prev
 use Rattle.catalogue.specs.declared.workers.Worker.{Worker}
 use Rattle.row.specs.Machine.Vertices.{Idle, AddV, RemV, ConV}
 use Rattle.row.specs.Lists.Edges.{Tag, marked, transit, added, head, at}
-use Rattle.catalogue.proofs.Members.{All}
-use Rattle.catalogue.proofs.Distinct.{Distinct}
+use Rattle.laws.proofs.Members.{All}
+use Rattle.laws.proofs.Distinct.{Distinct}
 use Rattle.row.specs.Lists.Edges
 use Rattle.row.specs.Machine.World.{World, adds, rems, cons, Opened, closed, opened, Hunt, Spot, Rest, Vert, FindU, FindV, LookE, ConE, Trial, Next}
 use Rattle.promises.specs.Bounds.{total}

@@ -2,7 +2,7 @@
 use mathlib.Core.Bool.{Bool, true, false, cond, not, _&&_, _||_}
 use mathlib.Core.Path.{_≡_, refl}
 use Rattle.catalogue.specs.Tests.{pick}
-use Rattle.catalogue.proofs.Picks.{clash}
+use Rattle.laws.proofs.Picks.{clash}
 
 module _ {A : Type 0} where
   pub pick-cond : (a : Bool) (x y : A) → pick a x y ≡ cond a x y

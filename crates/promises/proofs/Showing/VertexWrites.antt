@@ -12,8 +12,8 @@ use Rattle.catalogue.specs.Writes.{commit}
 use Rattle.catalogue.specs.declared.links.VertexLink.the-variants as vertex
 use Rattle.catalogue.specs.declared.links.EdgeLink.the-variants as edge
 use Rattle.catalogue.specs.declared.writes.Write.the-variants.{VertexLink, NewVertex}
-use Rattle.catalogue.proofs.Leads.{vertex-next-in}
-use Rattle.catalogue.proofs.Picks.{clash}
+use Rattle.laws.proofs.Leads.{vertex-next-in}
+use Rattle.laws.proofs.Picks.{clash}
 use Rattle.row.specs.Base.{upd-same, upd-other, same?}
 use Rattle.row.specs.Lists.Edges.{head}
 use Rattle.row.specs.Graphs.Good.{WGood}

@@ -26,7 +26,7 @@ use Rattle.row.specs.Steps.Spots.{Pair}
 use Rattle.row.specs.Lists.Edges.{Tag, at, Mine}
 use Rattle.row.specs.Lists.Edges
 use Rattle.row.specs.Graphs.Good.{WGood}
-use Rattle.catalogue.proofs.Rules.{eqZ-eq}
+use Rattle.laws.proofs.Rules.{eqZ-eq}
 use Rattle.row.specs.Machine.World.{World, ConE, goes, says, is-added}
 use Rattle.row.specs.Machine.Moves.{move}
 use Rattle.promises.proofs.Showing.Shows.{Shows, Asked, Follows, edge-tag-of}

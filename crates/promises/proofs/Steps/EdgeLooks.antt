@@ -18,7 +18,7 @@ use Rattle.catalogue.specs.declared.steps.BothSeen.the-variants as both
 use Rattle.catalogue.specs.declared.steps.EdgeSeen.{EdgeSeen}
 use Rattle.catalogue.specs.declared.steps.EdgeSeen.the-variants as seen
 use Rattle.row.specs.Base.{ltZ-true}
-use Rattle.catalogue.proofs.Rules.{eqZ-eq, not-true-false}
+use Rattle.laws.proofs.Rules.{eqZ-eq, not-true-false}
 use Rattle.row.specs.Steps.VertexDeeds.{Legal}
 use Rattle.row.specs.Lists.Edges.{Tag, marked, transit, added, Prev, head, at, is-marked, tag-at, link, Mine}
 use Rattle.row.specs.Machine.World.{World, is-added}

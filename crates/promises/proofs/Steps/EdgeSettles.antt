@@ -15,7 +15,7 @@ use Rattle.catalogue.specs.declared.steps.Decision.the-variants.{Begins}
 use Rattle.catalogue.specs.declared.workers.Place.the-variants as place
 use Rattle.catalogue.specs.declared.workers.Worker.{Worker}
 use Rattle.catalogue.specs.declared.writes.Write.the-variants as write
-use Rattle.catalogue.proofs.Picks.{clash}
+use Rattle.laws.proofs.Picks.{clash}
 use Rattle.row.specs.Base.{lt-or}
 use Rattle.row.specs.Lists.Edges.{Tag, marked, transit, added, Prev, at, is-marked, link, einsert, retag}
 use Rattle.row.specs.Machine.World.{World, Trial, goes, hunt-from, with-e}

@@ -18,7 +18,7 @@ use Rattle.catalogue.specs.declared.steps.Decision.{Decision}
 use Rattle.catalogue.specs.declared.steps.Decision.the-variants.{Torn, Keeps, Meets, Takes}
 use Rattle.catalogue.specs.declared.workers.Place.{Place}
 use Rattle.catalogue.specs.declared.workers.Worker.{Worker}
-use Rattle.catalogue.proofs.Picks.{clash}
+use Rattle.laws.proofs.Picks.{clash}
 use Rattle.row.specs.Lists.Edges.{marked, added, at, is-marked, InList, Mine}
 use Rattle.row.specs.Machine.World.{World, Opened, closed, opened, Hunt, Trial}
 use Rattle.row.specs.Machine.Moves.{hunt-open, hunt-take, hunts, trial}

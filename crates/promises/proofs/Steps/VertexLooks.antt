@@ -18,10 +18,10 @@ use Rattle.catalogue.specs.declared.steps.VertexSeen.{VertexSeen}
 use Rattle.catalogue.specs.declared.steps.VertexSeen.the-variants as seen
 use Rattle.catalogue.specs.declared.steps.VertexFound.{VertexFound}
 use Rattle.catalogue.specs.declared.steps.VertexFound.the-variants as finds
-use Rattle.catalogue.proofs.Picks.{clash}
+use Rattle.laws.proofs.Picks.{clash}
 use Rattle.row.specs.Base.{same?, ltZ-true}
 use Rattle.row.specs.Steps.VertexDeeds.{Legal, Aims, not-tail}
-use Rattle.catalogue.proofs.Rules.{eqZ-eq}
+use Rattle.laws.proofs.Rules.{eqZ-eq}
 use Rattle.row.specs.Machine.Vertices.{Seen, again, passes, onward, settle, look}
 use Rattle.row.specs.Lists.Store.{Cat, Inner, Good}
 use Rattle.row.specs.Machine.World.{World}

@@ -7,8 +7,8 @@ use borrow.Author.Tests.{lt-ltb, le-ltb, ltb-true}
 use lib.Dec.{ltb}
 use lib.Signed.{_<ℤ_}
 use Rattle.catalogue.specs.Tests.{pick, table-from}
-use Rattle.catalogue.proofs.Picks.{pick-both}
-use Rattle.catalogue.proofs.Members.{All}
+use Rattle.laws.proofs.Picks.{pick-both}
+use Rattle.laws.proofs.Members.{All}
 use Rattle.resting.specs.Rows.{row}
 use Rattle.row.specs.Base.{same?, lt-or}
 use Rattle.row.specs.Lists.Links.{Run, stop, go, run-trans, View, Follows, Sorted}

@@ -17,8 +17,8 @@ use Rattle.catalogue.specs.Live.{first-edge, next-edge, edges-of, live-vertices
 use Rattle.catalogue.specs.Soundness.{Asks, tag-fits, target-sound, edge-sound, edges-sound, sound}
 use Rattle.catalogue.specs.Sweep.{swept}
 use Rattle.catalogue.specs.declared.links.EdgeLink.{EdgeLink}
-use Rattle.catalogue.proofs.Picks.{pick-both, clash}
-use Rattle.catalogue.proofs.Members.{All, every-all}
+use Rattle.laws.proofs.Picks.{pick-both, clash}
+use Rattle.laws.proofs.Members.{All, every-all}
 use Rattle.resting.specs.Rows.{row}
 use Rattle.resting.specs.Sound.{edge-rises, whole, lists-sound}
 use Rattle.resting.specs.Shape.{live-row}

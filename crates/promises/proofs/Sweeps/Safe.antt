@@ -12,7 +12,7 @@ use Rattle.catalogue.specs.Live.{is-live, edges-of, live-vertices, live-edges-o
 use Rattle.catalogue.specs.Listing.{edge-lines}
 use Rattle.catalogue.specs.Soundness.{Asks, sound}
 use Rattle.catalogue.specs.Sweep.{swept}
-use Rattle.catalogue.proofs.Members.{member-keep}
+use Rattle.laws.proofs.Members.{member-keep}
 use Rattle.resting.specs.Rows.{member-row}
 use Rattle.resting.specs.Shape.{live-row}
 use Rattle.resting.specs.Shares.{start, edges-row}

@@ -12,7 +12,7 @@ use Rattle.catalogue.specs.Live.{next-vertex}
 use Rattle.catalogue.specs.Soundness.{Asks, vertex-sound, sound}
 use Rattle.catalogue.specs.Sweep.{swept, next-swept}
 use Rattle.catalogue.specs.declared.links.VertexLink.{VertexLink}
-use Rattle.catalogue.proofs.Members.{map-all}
+use Rattle.laws.proofs.Members.{map-all}
 use Rattle.resting.specs.Rows.{row}
 use Rattle.resting.specs.Sound.{link-rises, vertices-sound}
 use Rattle.resting.specs.Vertices.{live-few, live-over}

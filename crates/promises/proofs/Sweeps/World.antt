@@ -25,7 +25,7 @@ use Rattle.resting.specs.Reads.{head-at, vertex-at}
 use Rattle.resting.specs.Shape.{live-row, each-vertex}
 use Rattle.resting.specs.Shares.{link-row, first-link-row}
 use Rattle.resting.specs.Kept.{vertices-handed, edges-handed, edge-source, edge-aim}
-use Rattle.catalogue.proofs.Picks.{clash}
+use Rattle.laws.proofs.Picks.{clash}
 use Rattle.row.specs.Base.{same?}
 use Rattle.row.specs.Lists.Edges.{transit, added}
 use Rattle.row.specs.Machine.World.{World, Untried}

@@ -7,12 +7,12 @@ use native.Mathlib.Omega.{arith}
 use lib.IntN.{ℤ}
 use lib.Dec.{leb}
 use borrow.Author.Tests.{leb-true, le-leb}
-use Rattle.catalogue.proofs.Picks.{clash}
+use Rattle.laws.proofs.Picks.{clash}
 use Rattle.row.specs.Base.{same?}
 use Rattle.row.specs.Lists.Links.{Live, unique}
 use Rattle.row.specs.Lists.Store.{Cat, view}
 use Rattle.catalogue.specs.Tests.{eqZ}
-use Rattle.catalogue.proofs.Rules.{eqZ-eq}
+use Rattle.laws.proofs.Rules.{eqZ-eq}
 use Rattle.row.specs.Tests.{eqZ-yes, and-true, not-true, cond-or, bool-iff}
 use Rattle.row.specs.Lists.Edges.{Tag, marked, transit, added, head, at, is-marked, InList, eview}
 use Rattle.row.specs.Machine.World.{World, is-added, is-edge, has-edge, edges}

@@ -7,8 +7,8 @@ use native.Mathlib.Omega.{arith}
 use lib.IntN.{ℤ}
 use lib.Dec.{leb}
 use borrow.Author.Tests.{leb-true, le-leb}
-use Rattle.catalogue.proofs.Rules.{eqZ-eq}
-use Rattle.catalogue.proofs.Picks.{clash}
+use Rattle.laws.proofs.Rules.{eqZ-eq}
+use Rattle.laws.proofs.Picks.{clash}
 use Rattle.row.specs.Base.{upd-at, upd-other, upds, same?}
 use Rattle.row.specs.Tests.{eqZ-yes, eqZ-no, same-key?, and-true, not-true, cond-or, bool-iff}
 use Rattle.row.specs.Lists.Links.{Live, unique}

@@ -4,7 +4,7 @@ use mathlib.Core.Bool.{true, false}
 use mathlib.Core.Path.{_≡_, refl, sym, ap, _∙_}
 use mathlib.Core.Logic.{inl, inr}
 use native.Mathlib.Omega.{arith}
-use Rattle.catalogue.proofs.Picks.{clash}
+use Rattle.laws.proofs.Picks.{clash}
 use Rattle.row.specs.Base.{upd-other, same?}
 use Rattle.row.specs.Lists.Hindsight.{Moves}
 use Rattle.row.specs.Lists.Edges.{Tag, Prev, head, at, Edges, is-marked, tag-at, eview, ESound, retag, Turns, EStep, erests, einserts, eunlinks, retags}

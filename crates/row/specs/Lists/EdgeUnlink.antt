@@ -3,7 +3,7 @@ use Prim.Native.Nat.{ℕ}
 use mathlib.Core.Bool.{true, false}
 use mathlib.Core.Path.{_≡_, refl, sym, ap, _∙_}
 use mathlib.Core.Logic.{inl, inr}
-use Rattle.catalogue.proofs.Picks.{clash}
+use Rattle.laws.proofs.Picks.{clash}
 use Rattle.row.specs.Base.{upd-at, upd-other, upds, same?, <ℤ-trans}
 use Rattle.row.specs.Lists.Links.{Run, go, run-tail, Reached, Follows, run-fold}
 use Rattle.row.specs.Lists.Hindsight.{Moves}

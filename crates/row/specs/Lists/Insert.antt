@@ -5,7 +5,7 @@ use mathlib.Core.Path.{_≡_, sym, _∙_}
 use mathlib.Core.Logic.{inl, inr}
 use native.Mathlib.Omega.{arith}
 use lib.IntN.{ℤ}
-use Rattle.catalogue.proofs.Picks.{clash}
+use Rattle.laws.proofs.Picks.{clash}
 use Rattle.row.specs.Base.{upd-same, upd-other, upds, same?}
 use Rattle.row.specs.Lists.Links.{Run, stop, go, run-trans, Reached, Follows, run-fold}
 use Rattle.row.specs.Lists.Hindsight.{Moves}

@@ -2,7 +2,7 @@
 use mathlib.Core.Path.{refl, _∙_}
 use native.Mathlib.Omega.{arith}
 use mathlib.Core.Logic.{inl}
-use Rattle.catalogue.proofs.Picks.{clash}
+use Rattle.laws.proofs.Picks.{clash}
 use Rattle.row.specs.Lists.Hindsight.{Moves}
 use Rattle.row.specs.Lists.Store.{Cat, view, Step, rests, inserts, unlinks, marks, Sound, Good}
 use Rattle.row.specs.Lists.Insert.{insert-sound, insert-moves}

@@ -4,7 +4,7 @@ use mathlib.Core.Bool.{false}
 use mathlib.Core.Path.{_≡_, refl, ap, _∙_}
 use mathlib.Core.Logic.{inl, inr}
 use native.Mathlib.Omega.{arith}
-use Rattle.catalogue.proofs.Picks.{clash}
+use Rattle.laws.proofs.Picks.{clash}
 use Rattle.row.specs.Base.{upd-other, upds, same?, <ℤ-trans}
 use Rattle.row.specs.Lists.Links.{Run, go, run-tail, Reached, Follows, run-fold}
 use Rattle.row.specs.Lists.Hindsight.{Moves}

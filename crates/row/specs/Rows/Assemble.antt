@@ -8,7 +8,7 @@ use mathlib.Core.Option.{some}
 use native.Mathlib.Omega.{arith}
 use lib.Dec.{eqb}
 use borrow.Author.Tests.{eq-eqb, ne-eqb}
-use Rattle.catalogue.proofs.Picks.{clash}
+use Rattle.laws.proofs.Picks.{clash}
 use Rattle.row.specs.Base.{same?}
 use Rattle.row.specs.Rows.Row.{Call, History, Entry, All, nil, also, by, Replays, times, InOrder, Genuine, Explains, Event, quiet, acts, looks}
 

@@ -9,7 +9,7 @@ use borrow.Author.Tests.{ltb-true}
 use lib.IntN.{ℤ}
 use lib.Signed.{ltZ, ltZ-yes}
 use Rattle.catalogue.specs.Tests.{upd}
-use Rattle.catalogue.proofs.Picks.{clash}
+use Rattle.laws.proofs.Picks.{clash}
 use Rattle.row.specs.Base.{upd-at, upd-other, same?, lt-or, ltZ-true}
 use Rattle.row.specs.Lists.Links.{stop, go, Reached, Follows}
 use Rattle.row.specs.Lists.Hindsight.{Moves}

@@ -9,7 +9,7 @@ use lib.IntN.{ℤ}
 use lib.Dec.{eqb, ltb}
 use borrow.Author.Tests.{eq-eqb, ne-eqb}
 use Rattle.catalogue.specs.Tests.{upd}
-use Rattle.catalogue.proofs.Picks.{clash}
+use Rattle.laws.proofs.Picks.{clash}
 use Rattle.row.specs.Base.{upd-at, upd-other, same?}
 use Rattle.row.specs.Rows.Row.{Call, by, Event, quiet, acts, looks}
 use Rattle.row.specs.Lists.Links.{stop, View, Sorted, Live}

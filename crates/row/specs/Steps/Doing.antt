@@ -10,13 +10,13 @@ use lib.IntN.{ℤ}
 use lib.Dec.{eqb, leb}
 use lib.Signed.{_<ℤ_, ltZ, <ℤ-irrefl}
 use borrow.Author.Tests.{eqb-true, eqb-false}
-use Rattle.catalogue.proofs.Picks.{clash}
+use Rattle.laws.proofs.Picks.{clash}
 use Rattle.row.specs.Base.{upd-same, <ℤ-trans, ltZ-true}
 use Rattle.row.specs.Lists.Links.{go, gap-dead}
 use Rattle.catalogue.specs.Tests.{eqZ}
 use Rattle.row.specs.Machine.Vertices.{Idle, live}
 use Rattle.row.specs.Machine.Vertices
-use Rattle.catalogue.proofs.Rules.{eqZ-eq}
+use Rattle.laws.proofs.Rules.{eqZ-eq}
 use Rattle.row.specs.Graphs.LiveSet.{present-yes}
 use Rattle.row.specs.Tests.{eqZ-yes, eqZ-no, not-below, or-true, or-false}
 use Rattle.row.specs.Steps.VertexDeeds.{vdid}

@@ -8,7 +8,7 @@ use lib.Dec.{eqb}
 use lib.Signed.{_<ℤ_, ltZ}
 use borrow.Author.Tests.{eqb-true}
 use Rattle.row.specs.Tests.{not-below, and-true, or-true, or-false, not-true}
-use Rattle.catalogue.proofs.Picks.{clash}
+use Rattle.laws.proofs.Picks.{clash}
 use Rattle.row.specs.Base.{ltZ-true}
 use Rattle.row.specs.Lists.Edges.{Tag, marked, transit, added, Prev, is-marked, link, tag-at}
 use Rattle.row.specs.Machine.World.{World, is-added}

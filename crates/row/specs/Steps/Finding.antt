@@ -6,11 +6,11 @@ use mathlib.Core.Logic.{inl, inr}
 use native.Mathlib.Omega.{arith}
 use lib.IntN.{ℤ}
 use lib.Signed.{_<ℤ_, ltZ}
-use Rattle.catalogue.proofs.Picks.{clash}
+use Rattle.laws.proofs.Picks.{clash}
 use Rattle.row.specs.Base.{ltZ-true}
 use Rattle.row.specs.Lists.Store.{Cat}
 use Rattle.catalogue.specs.Tests.{eqZ}
-use Rattle.catalogue.proofs.Rules.{eqZ-eq}
+use Rattle.laws.proofs.Rules.{eqZ-eq}
 use Rattle.row.specs.Tests.{eqZ-yes, not-below}
 use Rattle.row.specs.Steps.VertexDeeds.{Legal, Missed, not-tail, not-head}
 use Rattle.row.specs.Lists.Edges.{head}

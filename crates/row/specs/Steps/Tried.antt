@@ -9,7 +9,7 @@ use lib.IntN.{ℤ}
 use lib.Dec.{eqb, leb}
 use lib.Signed.{ltZ}
 use Rattle.catalogue.specs.Tests.{eqZ}
-use Rattle.catalogue.proofs.Picks.{clash}
+use Rattle.laws.proofs.Picks.{clash}
 use Rattle.row.specs.Base.{upd-at, upd-other, same?}
 use Rattle.row.specs.Lists.Edges.{Tag, marked, transit, added, Prev, is-marked, einsert, retag}
 use Rattle.row.specs.Machine.World.{World, Kind, Opened, closed, opened, Hunt, hunt-from, stands-at, meets, took, Spot, Rest, Vert, FindU, FindV, LookE, ConE, Trial, Next, goes, with-e, is-added, OnTrial}

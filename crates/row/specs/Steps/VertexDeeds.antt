@@ -9,7 +9,7 @@ use lib.IntN.{ℤ}
 use lib.Dec.{eqb, leb}
 use lib.Signed.{_<ℤ_, ltZ, <ℤ-irrefl, ltZ-yes}
 use borrow.Author.Tests.{eqb-true}
-use Rattle.catalogue.proofs.Picks.{clash}
+use Rattle.laws.proofs.Picks.{clash}
 use Rattle.row.specs.Base.{same?, <ℤ-trans, ltZ-true}
 use Rattle.row.specs.Lists.Links.{Run, stop, go, Follows, gap-dead}
 use Rattle.row.specs.Lists.Hindsight.{Moves}
@@ -17,7 +17,7 @@ use Rattle.row.specs.Lists.Store.{Cat, view, insert, unlink, Inner, Gone
 use Rattle.catalogue.specs.Tests.{eqZ}
 use Rattle.catalogue.specs.Numbers.{least, greatest}
 use Rattle.row.specs.Machine.Vertices.{Request, addV, remV, conV, key-of, Place, Idle, AddV, RemV, ConV, Out, going, replies, Seen, again, passes, onward, settle, look, add, rem, step, begin, legal, fresh, live, sequential}
-use Rattle.catalogue.proofs.Rules.{eqZ-eq}
+use Rattle.laws.proofs.Rules.{eqZ-eq}
 use Rattle.row.specs.Graphs.LiveSet.{Present, present-live, present-yes, present-no, live-unlink, live-insert, live-mark}
 use Rattle.row.specs.Tests.{eqZ-yes, eqZ-no, not-below, and-true, not-true}
 

@@ -4,7 +4,7 @@ use mathlib.Core.Path.{_≡_, refl, sym, _∙_}
 use mathlib.Core.Logic.{_⊎_, inl, inr}
 use native.Mathlib.Omega.{arith}
 use lib.IntN.{ℤ}
-use Rattle.catalogue.proofs.Picks.{clash}
+use Rattle.laws.proofs.Picks.{clash}
 use Rattle.row.specs.Base.{upd-same, upd-at, upd-other, same?, lt-or}
 use Rattle.row.specs.Lists.Hindsight.{Moves, plain-down}
 use Rattle.row.specs.Lists.Store.{Cat, view, Step, rests}

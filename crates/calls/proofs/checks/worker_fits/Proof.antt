@@ -1,6 +1,6 @@
 -- The tests are those of the definition. Assumes nothing.
 use Rattle.calls.proofs.Outcomes.{range-flag}
-use Rattle.catalogue.proofs.Ways.{on-true, on-false}
+use Rattle.laws.proofs.Ways.{on-true, on-false}
 use Rattle.catalogue.specs.Calls.{worker-fits, count-fits}
 use borrow.Author.Needs.{needs}
 use borrow.Author.Tests.{lt-ltb, le-ltb}

@@ -1,5 +1,5 @@
 -- Each way out is the case of the definition that its tests and reads choose. Assumes nothing.
-use Rattle.catalogue.proofs.Ways.{ways}
+use Rattle.laws.proofs.Ways.{ways}
 use Rattle.catalogue.specs.Steps.Both.{see-both}
 use borrow.Author.Needs.{needs}
 use Rattle.looks.proofs.both.see_both.Statement.{statement}

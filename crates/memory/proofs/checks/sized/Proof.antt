@@ -1,5 +1,5 @@
 -- The tests are those of the definition. Assumes nothing.
-use Rattle.catalogue.proofs.Ways.{ways}
+use Rattle.laws.proofs.Ways.{ways}
 use Rattle.catalogue.specs.Lent.{sized}
 use Rattle.memory.proofs.checks.sized.Statement.{statement}
 use Rattle.memory.proofs.checks.sized.Tie as tie

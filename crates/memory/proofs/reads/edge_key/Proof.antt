@@ -1,5 +1,5 @@
 -- The one test of the read is the one test of the definition. Assumes nothing.
-use Rattle.catalogue.proofs.Rules.{tests}
+use Rattle.laws.proofs.Rules.{tests}
 use Rattle.catalogue.specs.Catalogue.{edge-key-in}
 use borrow.Author.Needs.{needs}
 use Rattle.memory.proofs.reads.edge_key.Statement.{statement}

@@ -1,5 +1,5 @@
 -- Each way out is a case of the definition, by the same test. Assumes nothing.
-use Rattle.catalogue.proofs.Ways.{ways}
+use Rattle.laws.proofs.Ways.{ways}
 use borrow.Author.Needs.{needs}
 use Rattle.survey.proofs.tests.is_added.Statement.{statement}
 use Rattle.survey.proofs.tests.is_added.Tie as tie

@@ -1,5 +1,5 @@
 -- Each way out is a case of the definition. Assumes nothing.
-use Rattle.catalogue.proofs.Ways.{ways}
+use Rattle.laws.proofs.Ways.{ways}
 use borrow.Author.Needs.{needs}
 use Rattle.survey.proofs.tests.next_vertex.Statement.{statement}
 use Rattle.survey.proofs.tests.next_vertex.Tie as tie

@@ -1,6 +1,6 @@
 -- Each way out is a case of the definition. Assumes nothing.
 use Rattle.survey.proofs.Told.{met-on, eqZ-both-true, eqZ-both-false}
-use Rattle.catalogue.proofs.Ways.{on-true, on-false, vertex-at, vertex-torn}
+use Rattle.laws.proofs.Ways.{on-true, on-false, vertex-at, vertex-torn}
 use borrow.Author.Needs.{needs, sfits-of}
 use borrow.Author.Tests.{eq-eqb, ne-eqb}
 use Rattle.survey.proofs.tests.target_sound.Statement.{statement}

@@ -1,6 +1,6 @@
 -- Each way out is a case of the definition, by the two keys that are read. Assumes nothing.
 use Rattle.survey.proofs.Told.{ltZ-says}
-use Rattle.catalogue.proofs.Ways.{vertex-at, vertex-torn}
+use Rattle.laws.proofs.Ways.{vertex-at, vertex-torn}
 use borrow.Author.Needs.{needs, sfits-of}
 use Rattle.survey.proofs.tests.vertex_sound.Statement.{statement}
 use Rattle.survey.proofs.tests.vertex_sound.Tie as tie

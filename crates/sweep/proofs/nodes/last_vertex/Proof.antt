@@ -1,5 +1,5 @@
 -- The test of the count is that of the definition. Assumes nothing.
-use Rattle.catalogue.proofs.Ways.{ways}
+use Rattle.laws.proofs.Ways.{ways}
 use Rattle.sweep.specs.Built.{last-vertex}
 use borrow.Author.Needs.{needs}
 use Rattle.sweep.proofs.nodes.last_vertex.Statement.{statement}

@@ -1,5 +1,5 @@
 -- The read chooses the case of the definition. Assumes nothing.
-use Rattle.catalogue.proofs.Ways.{ways}
+use Rattle.laws.proofs.Ways.{ways}
 use borrow.Author.Needs.{needs}
 use Rattle.sweep.proofs.nodes.target_number.Statement.{statement}
 use Rattle.sweep.proofs.nodes.target_number.Tie as tie

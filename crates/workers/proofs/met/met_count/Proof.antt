@@ -6,7 +6,7 @@ use mir.Val.{Fits}
 use lib.ListN.{getD}
 use lib.Count.{ones, ones-le}
 use borrow.Author.Needs.{needs}
-use Rattle.workers.proofs.MetLaws.{count-is}
+use Rattle.laws.proofs.MetLaws.{count-is}
 use Rattle.workers.proofs.met.met_count.Statement.{statement}
 use Rattle.workers.proofs.met.met_count.Tie as tie
 

@@ -1,5 +1,5 @@
 -- A shift right is the quotient by the power, so the bit that is tested is the definition's. Assumes nothing.
-use Rattle.catalogue.proofs.Rules.{tests}
+use Rattle.laws.proofs.Rules.{tests}
 use Rattle.catalogue.specs.Workers.{has}
 use borrow.Author.Needs.{needs}
 use Rattle.workers.proofs.met.met_has.Statement.{statement}

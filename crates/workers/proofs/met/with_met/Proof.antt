@@ -1,5 +1,5 @@
 -- The bit is clear, so that the sum sets it and fits its word. Assumes nothing.
-use Rattle.workers.proofs.MetLaws.{adding}
+use Rattle.laws.proofs.MetLaws.{adding}
 use borrow.Author.Needs.{needs}
 use Rattle.workers.proofs.met.with_met.Statement.{statement}
 use Rattle.workers.proofs.met.with_met.Tie as tie

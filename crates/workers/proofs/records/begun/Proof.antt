@@ -1,5 +1,5 @@
 -- A set of zero words holds no number, so that v can be added to it. Assumes nothing.
-use Rattle.workers.proofs.MetLaws.{none-met}
+use Rattle.laws.proofs.MetLaws.{none-met}
 use borrow.Author.Needs.{needs}
 use Rattle.workers.proofs.records.begun.Statement.{statement}
 use Rattle.workers.proofs.records.begun.Tie as tie

@@ -7,10 +7,10 @@ use native.Mathlib.Omega.{arith}
 use lib.ListN.{length}
 use lib.Dec.{eqb}
 use borrow.Author.Tests.{eqb-true, eqb-false, ne-eqb}
 use Rattle.catalogue.specs.Tests.{pick, keep}
 use Rattle.catalogue.specs.Live.{gather}
-use Rattle.catalogue.proofs.Picks.{pick-both, clash}
-use Rattle.catalogue.proofs.Members.{All, all-each, all-join, all-append, all-parts, all-gather, all-keep, kept-all, keep-all}
+use Rattle.laws.proofs.Picks.{pick-both, clash}
+use Rattle.laws.proofs.Members.{All, all-each, all-join, all-append, all-parts, all-gather, all-keep, kept-all, keep-all}
 
 -- no number twice
 abbrev pub Distinct : List ℕ → Type 0

@@ -7,10 +7,10 @@ use native.Mathlib.Omega.{arith}
 use lib.IntN.{ℤ, pos, negsuc}
 use lib.Dec.{T, ltb→lt, lt→ltb}
 use lib.Signed.{ltZ, _<ℤ_, _≤ℤ_, ltZ-yes, ltZ-no, <ℤ-irrefl, <ℤ-≤ℤ-trans, clashℤ}
 use Rattle.catalogue.specs.Tests.{keep}
-use Rattle.catalogue.proofs.Picks.{pick-both}
-use Rattle.catalogue.proofs.Members.{All, all-each, map-all, keys-kept}
-use Rattle.catalogue.proofs.Distinct.{Distinct}
+use Rattle.laws.proofs.Picks.{pick-both}
+use Rattle.laws.proofs.Members.{All, all-each, map-all, keys-kept}
+use Rattle.laws.proofs.Distinct.{Distinct}
 
 through : (a b c : ℤ) → T (ltZ a b) → T (ltZ b c) → T (ltZ a c)
 through (pos a) (pos b) (pos c) h k = omega (arith, ltb→lt, lt→ltb)

@@ -10,11 +10,11 @@ use lib.ListN.{length}
 use lib.Dec.{eqb}
 use lib.Signed.{_<ℤ_}
 use borrow.Author.Tests.{eqb-true, eqb-false, eq-eqb, ne-eqb}
 use Rattle.catalogue.specs.Live.{walk}
-use Rattle.catalogue.proofs.Cases.{same?}
-use Rattle.catalogue.proofs.Members.{All}
-use Rattle.catalogue.proofs.Distinct.{pigeons}
-use Rattle.catalogue.proofs.Keys.{<ℤ-trans, Rising, rising-distinct}
+use Rattle.laws.proofs.Cases.{same?}
+use Rattle.laws.proofs.Members.{All}
+use Rattle.laws.proofs.Distinct.{pigeons}
+use Rattle.laws.proofs.Keys.{<ℤ-trans, Rising, rising-distinct}
 
 -- A walk by its clauses, from what the code tests.
 pub walk-spent : (next : ℕ → ℕ) (end n x : ℕ) → n ≡ 0 → walk next end n x ≡ []

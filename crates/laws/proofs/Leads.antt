@@ -5,13 +5,13 @@ use mathlib.Core.Path.{_≡_, subst}
 use borrow.Author.Tests.{ltb-true}
 use native.Mathlib.Omega.{arith}
 use lib.Dec.{ltb, eqb}
 use Rattle.catalogue.specs.Numbers.{tail, edge-tail, vertex-pool, edge-pool, vertex-tag, edge-tag, first-tag, apart}
 use Rattle.catalogue.specs.Catalogue.{vertex-link-in, edge-link-in, first-link-in, at-vertex, at-edge}
 use Rattle.catalogue.specs.declared.links.VertexLink.{VertexLink}
 use Rattle.catalogue.specs.declared.links.VertexLink.the-variants as vertex
 use Rattle.catalogue.specs.declared.links.EdgeLink.{EdgeLink}
 use Rattle.catalogue.specs.declared.links.EdgeLink.the-variants as edge
-use Rattle.catalogue.proofs.Picks.{pick-both, vertex-both, edge-both}
+use Rattle.laws.proofs.Picks.{pick-both, vertex-both, edge-both}
 
 -- a word taken apart, where the node lies in its pool
 pub apart-both : {A : Type 0} (P : A → Type 0) (pool : ℕ) (allowed : ℕ → Bool) (word : ℕ) (torn : A) (at : ℕ → ℕ → A)

@@ -15,7 +15,7 @@ use lib.ListN.{getD, set, length, replicate}
 use lib.Seq.{getD-set-same, getD-set-other}
 use lib.Count.{ones}
 use Rattle.catalogue.specs.Workers.{has, with-met, count, met-count}
-use Rattle.workers.proofs.Bits.{bit, ones-count, count-same, count-add, add-fits, bit-same, bit-other, one-shl}
+use Rattle.laws.proofs.Bits.{bit, ones-count, count-same, count-add, add-fits, bit-same, bit-other, one-shl}
 
 count-none : (f : ℕ → Bool) → count f 0 ≡ 0
 unfolding count

@@ -7,14 +7,14 @@ use borrow.Author.Tests.{ltb-true}
 use mir.Syntax.{w8}
 use mir.Val.{Fits}
 use lib.Dec.{ltb, eqb}
 use Rattle.catalogue.specs.Numbers.{edge-pool, room, edge-tag}
 use Rattle.catalogue.specs.Catalogue.{Catalogue, edge-link-in, edge-link}
 use Rattle.catalogue.specs.Live.{is-added, is-live}
 use Rattle.catalogue.specs.declared.links.EdgeLink.{EdgeLink}
 use Rattle.catalogue.specs.declared.links.EdgeLink.the-variants as edge
 use Rattle.catalogue.specs.declared.links.Room.{Room}
 use Rattle.catalogue.specs.declared.links.Room.the-variants as room
-use Rattle.catalogue.proofs.Picks.{clash, both-true, pick-both, edge-both}
+use Rattle.laws.proofs.Picks.{clash, both-true, pick-both, edge-both}
 
 -- an edge whose link was read whole
 abbrev Linked : ℕ → EdgeLink → Type 0

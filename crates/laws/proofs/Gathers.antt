@@ -3,9 +3,9 @@ use Prim.Native.Nat.{ℕ, zero, suc, _+_}
 use mathlib.Core.List.{List, [], _∷_, _++_, append-assoc}
 use mathlib.Core.Path.{_≡_, refl, sym, ap, ap₂, _∙_}
 use lib.ListN.{length, length-append}
 use Rattle.catalogue.specs.Tests.{table-from}
 use Rattle.catalogue.specs.Live.{gather}
-use Rattle.catalogue.proofs.Members.{All}
+use Rattle.laws.proofs.Members.{All}
 
 pub length-table : {A : Type 0} (f : ℕ → A) (from n : ℕ) → length (table-from f from n) ≡ n
 unfolding table-from

@@ -10,3 +10,5 @@ pub mod Distinct
 pub mod Keys
 pub mod Walks
 pub mod Gathers
+pub mod Bits
+pub mod MetLaws

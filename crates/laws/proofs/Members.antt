@@ -7,9 +7,9 @@ use native.Mathlib.Omega.{arith}
 use lib.ListN.{length, getD}
 use lib.Dec.{eqb}
 use borrow.Author.Tests.{eq-eqb, eqb-true}
 use Rattle.catalogue.specs.Tests.{pick, keep, every, member}
 use Rattle.catalogue.specs.Live.{gather}
-use Rattle.catalogue.proofs.Picks.{clash, both-true, pick-both}
+use Rattle.laws.proofs.Picks.{clash, both-true, pick-both}
 
 abbrev pub All : {A : Type 0} → (A → Type 0) → List A → Type 0
 All P [] = Unit {0}

@@ -8,18 +8,18 @@ use mir.Syntax.{w32}
 use mir.Val.{SFits, ofZ, toZ}
 use lib.IntN.{ℤ}
 use lib.Signed.{ltZ}
 use Rattle.catalogue.specs.Tests.{pick, eqZ}
 use Rattle.catalogue.specs.Catalogue.{at-vertex, at-edge, at-target}
 use Rattle.catalogue.specs.Steps.Both.{at-both}
 use Rattle.catalogue.specs.declared.links.VertexLink.{VertexLink}
 use Rattle.catalogue.specs.declared.links.VertexLink.the-variants as vertex
 use Rattle.catalogue.specs.declared.links.EdgeLink.{EdgeLink}
 use Rattle.catalogue.specs.declared.links.EdgeLink.the-variants as edge
 use Rattle.catalogue.specs.declared.links.Target.{Target}
 use Rattle.catalogue.specs.declared.links.Target.the-variants as target
 use Rattle.catalogue.specs.declared.steps.BothSeen.{BothSeen}
 use Rattle.catalogue.specs.declared.steps.BothSeen.the-variants as both
-use Rattle.catalogue.proofs.Rules.{tests, eqZ-true, eqZ-false, ltZ-is}
+use Rattle.laws.proofs.Rules.{tests, eqZ-true, eqZ-false, ltZ-is}
 
 module _ {A : Type 0} (x : A) where
   -- a test
