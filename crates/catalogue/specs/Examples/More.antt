@@ -115,6 +115,54 @@ almost-loop n = answers 2
     (three-vertices ++ (call 0 4 (pos 2) (pos 3) 9 ++ (call 0 4 (pos 3) (pos 1) 8 ++ (call 0 4 (pos 1) (pos 2) n ++ (call 1 2 (pos 3) unused 3 ++ stepped 0 2)))))
     (1 ∷ 1 ∷ 1 ∷ 1 ∷ 1 ∷ 1 ∷ 1 ∷ [])
 
+-- ConE asks where the edge leads, and for the mark of u: 2 was removed and added again, which leaves the old edge to the old one; then 1 goes after it was found.
+abbrev old-target : Example
+old-target = answers 1
+    (call 0 1 (pos 1) unused 1 ++ (call 0 1 (pos 2) unused 2 ++ (call 0 4 (pos 1) (pos 2) 7 ++ (call 0 2 (pos 2) unused 2 ++ (call 0 1 (pos 2) unused 3
+    ++ call 0 6 (pos 1) (pos 2) 4)))))
+    (1 ∷ 1 ∷ 1 ∷ 1 ∷ 1 ∷ 8 ∷ [])
+
+abbrev source-removed : Example
+source-removed = answers 2
+    (call 0 1 (pos 1) unused 1 ++ (call 0 1 (pos 2) unused 2 ++ (call 0 4 (pos 1) (pos 2) 7 ++ (call 1 6 (pos 1) (pos 2) 3 ++ (call 0 2 (pos 1) unused 1
+    ++ stepped 1 1)))))
+    (1 ∷ 1 ∷ 1 ∷ 1 ∷ 8 ∷ [])
+
+-- AddE asks for the mark of v at each look: 2 goes after it was found.
+abbrev target-removed : Example
+target-removed = answers 2 (three-vertices ++ (call 1 4 (pos 1) (pos 2) 3 ++ (call 0 2 (pos 2) unused 2 ++ stepped 1 1))) (1 ∷ 1 ∷ 1 ∷ 1 ∷ 3 ∷ [])
+
+-- An edge is put in between p, an unmarked edge, and c: the look of 1 to 4 starts again, and 1 to 3 is not lost.
+abbrev inserted-between : Example
+inserted-between = answers 2
+    (three-vertices ++ (call 0 1 (pos 4) unused 4 ++ (call 0 4 (pos 1) (pos 2) 7 ++ (call 1 4 (pos 1) (pos 4) 6 ++ (call 0 4 (pos 1) (pos 3) 9 ++ (stepped 1 7
+    ++ call 0 6 (pos 1) (pos 3) 6))))))
+    (1 ∷ 1 ∷ 1 ∷ 1 ∷ 1 ∷ 1 ∷ 1 ∷ 1 ∷ [])
+
+-- An edge on trial to a removed target is left to its adder: 7 is added again, and the pair is on trial still.
+abbrev trial-left-alone : Example
+trial-left-alone = answers 2
+    (on-trial ++ (call 1 2 (pos 7) unused 2 ++ (call 1 1 (pos 7) unused 3 ++ call 1 4 (pos 5) (pos 7) 4)))
+    (1 ∷ 1 ∷ 1 ∷ 1 ∷ 7 ∷ [])
+
+-- 1 to 2 is on trial, and stays so when 1 to 3 is put in behind it.
+abbrev inserted-behind-trial : Example
+inserted-behind-trial = answers 2
+    (three-vertices ++ (call 0 4 (pos 1) (pos 2) 4 ++ (call 1 4 (pos 1) (pos 3) 9 ++ call 1 6 (pos 1) (pos 2) 4)))
+    (1 ∷ 1 ∷ 1 ∷ 1 ∷ 8 ∷ [])
+
+-- P8 as a script: the edge that was withdrawn is not counted.
+abbrev withdrawn : Example
+withdrawn = prints
+    "2 3 1 14\n1 5\n1 7\n4 5 7\n2 7\n0 0 0 0 0 0 0 0 0 0 1 1 1 0\n"
+    "4 1 0\n2 0 1 1\n5 0 1 1\n13 1 2 1\n14 0 4 3\n5\n"
+
+-- 2 to 3 leads to a removed vertex: a trial of 1 to 2 passes it, and is done two steps earlier than if it met 3.
+abbrev dead-target-passed : Example
+dead-target-passed = answers 1
+    (three-vertices ++ (call 0 4 (pos 2) (pos 3) 9 ++ (call 0 2 (pos 3) unused 3 ++ call 0 4 (pos 1) (pos 2) 8)))
+    (1 ∷ 1 ∷ 1 ∷ 1 ∷ 1 ∷ 1 ∷ [])
+
 -- An edge on trial when the schedule ends is neither counted nor listed.
 abbrev listed-on-trial : Example
 listed-on-trial = prints
@@ -152,6 +200,7 @@ abbrev pub table : List Example
 table =
     dead-target ∷ around-zero ∷ bad-line ∷ other-replies ∷ swept ∷ met-counts ∷ crossing-removals ∷ starting-again ∷ crossed-trials
     ∷ removed-passed ∷ contained ∷ kept-on-trial ∷ left-behind ∷ vertex-behind ∷ edge-behind ∷ open-target-removed ∷ almost-loop 7 ∷ almost-loop 8
+    ∷ old-target ∷ source-removed ∷ target-removed ∷ inserted-between ∷ trial-left-alone ∷ inserted-behind-trial ∷ withdrawn ∷ dead-target-passed
     ∷ listed-on-trial ∷ line-rules
 
 pub checked : map found table ≡ map expected table

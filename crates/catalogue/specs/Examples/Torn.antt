@@ -112,7 +112,7 @@ at-first = AddE (pos 5) (pos 7) 2 3 First 1
 abbrev trying : Place
 trying = Trial (pos 5) (pos 7) 2 3 1
 
--- TORN, in the order of the paragraph: a number outside its pool, of a link, of a target and of the record; the tags; the counts.
+-- TORN, in the order of the paragraph: a number outside its pool, of a link, of a target and of the record; the tags; the counts, which an equal key comes before.
 abbrev torn-memory : List Row
 torn-memory =
     steps (three 256 plain) adding 26
@@ -126,9 +126,11 @@ torn-memory =
     ∷ steps (counted 253 1) adding 1
     ∷ steps (counted 254 1) adding 9
     ∷ steps (counted 255 1) adding 26
+    ∷ steps (counted 255 1) (AddV (pos 7) 2 3) 2
     ∷ steps (counted 2 2046) (AddE (pos 5) (pos 5) 2 2 First 1) 0
     ∷ steps (counted 2 2047) (AddE (pos 5) (pos 5) 2 2 First 1) 9
     ∷ steps (counted 2 2048) (AddE (pos 5) (pos 5) 2 2 First 1) 26
+    ∷ steps (counted 2 2048) at-first 4
     ∷ []
 
 -- TORN: a reserved key in a step that needs none, tails as p and as own edge, the ends of the queue, also where u is marked, and a 257th vertex.
