@@ -3,6 +3,7 @@ pub mod Replies
 pub mod Room
 pub mod Spots
 pub mod Rivals
+pub mod Tried
 pub mod Run
 pub mod Passing
 pub mod Ways

@@ -7,6 +7,7 @@ use Rattle.promises.proofs.Rows.Begins.{begins-empty}
 use Rattle.promises.proofs.Rows.Outcome.{one-at-most, one-outcome}
 use Rattle.promises.proofs.Outside.Room.{no-room}
 use Rattle.promises.proofs.Outside.Rivals.{on-trial}
+use Rattle.promises.proofs.Outside.Tried.{edges-tried}
 use Rattle.promises.proofs.Outside.Loops.{cycle}
 use Rattle.promises.proofs.Outside.Undisturbed.{cycle-alone}
 use Rattle.promises.proofs.Bounds.Calls.{con-v-bound, con-e-bound}
@@ -26,6 +27,7 @@ promises = record {
   one-outcome = one-outcome;
   no-room = no-room;
   on-trial = on-trial;
+  edges-tried = edges-tried;
   cycle = cycle;
   cycle-alone = cycle-alone;
   con-v-bound = con-v-bound;

@@ -3,6 +3,7 @@ use Prim.Native.Nat.{ℕ}
 use mathlib.Core.Bool.{true}
 use mathlib.Core.List.{List, _∷_, _++_}
 use mathlib.Core.Path.{_≡_, refl}
+use native.Mathlib.Omega.{arith}
 use lib.IntN.{pos}
 use lib.ListN.{replicate}
 use Rattle.catalogue.specs.Calls.{step}
@@ -11,6 +12,7 @@ use Rattle.catalogue.specs.Examples.Rows.{found}
 use Rattle.catalogue.specs.declared.answers.Answer.the-variants.{Reply}
 use Rattle.promises.specs.Moments.{at}
 use Rattle.promises.specs.Graphs.{same-line, printed, live}
+use Rattle.promises.specs.Outside.{TrialEdge}
 
 -- a request with both keys, and so many steps of worker 0
 abbrev does : ℕ → ℕ → ℕ → ℕ → List Choice
@@ -31,3 +33,8 @@ half = derived-once ++ does 4 2 1 7
 pub loop-refused : step (at 1 half .catalogue) (at 1 half .table) 0 .answer ≡ Reply 6
 unfolding found after
 loop-refused = refl
+
+-- until then its edge, node 2, is on trial in the list of the second series, vertex 3
+pub half-on-trial : TrialEdge (at 1 half .catalogue) 3 2
+unfolding found after
+half-on-trial = record { low = omega arith; high = omega arith; listed = refl; next = 0; link = refl }

@@ -1,12 +1,12 @@
 -- The three replies that stand outside the row: 9 for want of a node, 7 for a pair on trial, and 6 for a pair that would close a loop.
-use Prim.Native.Nat.{ℕ, suc, _≤_, _<_}
+use Prim.Native.Nat.{ℕ, suc, _+_, _≤_, _<_}
 use mathlib.Core.Bool.{true, false}
 use mathlib.Core.List.{List}
 use mathlib.Core.Path.{_≡_}
 use lib.IntN.{ℤ}
 use lib.ListN.{length}
 use Rattle.catalogue.specs.Tests.{member}
-use Rattle.catalogue.specs.Numbers.{most-vertices, most-edges, marked}
+use Rattle.catalogue.specs.Numbers.{most-vertices, most-edges, marked, transit}
 use Rattle.catalogue.specs.Catalogue.{Catalogue, vertex-key, edge-link, edge-target}
 use Rattle.catalogue.specs.Live.{edges-of, unmarked, live-vertices, live-edges-of}
 use Rattle.catalogue.specs.Calls.{step}
@@ -55,6 +55,26 @@ pub record Rival (workers : ℕ) (m : Moment) (w : ℕ) (k l : ℤ) : Type 0 whe
   pub v : ℕ
   pub e : ℕ
   pub tries : Tries k l u v e (place-of m worker)
+
+-- ---- edges on trial
+
+-- The edge e is on trial in the list of x, which is a vertex that is handed out, marked or not: it has the tag TRANSIT.
+pub record TrialEdge (C : Catalogue) (x e : ℕ) : Type 0 where
+  pub low : 2 ≤ x
+  pub high : x < 2 + C .vertices-out
+  pub listed : member e (edges-of C x) ≡ true
+  pub next : ℕ
+  pub link : edge-link C e ≡ edge.At next transit
+
+-- Exactly one worker tries e, and it does so from x: whoever tries e is that worker.
+pub record Tried (workers : ℕ) (m : Moment) (x e : ℕ) : Type 0 where
+  pub worker : ℕ
+  pub inside : worker < workers
+  pub k : ℤ
+  pub l : ℤ
+  pub v : ℕ
+  pub tries : Tries k l x v e (place-of m worker)
+  pub only : (w : ℕ) → w < workers → (i j : ℤ) (u y : ℕ) → Tries i j u y e (place-of m w) → w ≡ worker
 
 -- ---- 6
 
@@ -114,8 +134,7 @@ module _ (workers : ℕ) (choices : List Choice) (w : ℕ) where
     pub lasts : Lasts k l u v e first (length choices)
     pub chain : Crossed k l u v e first (length choices) u
 
-  -- No other worker tries anything from the moment `first` to the moment `last`.
-  abbrev pub Undisturbed : ℕ → ℕ → Type 0
-  Undisturbed first last =
-      (n : ℕ) → first ≤ n → n ≤ last → (x : ℕ) → x < workers → (x ≡ w → ⊥)
-      → (k l : ℤ) (u v e : ℕ) → Tries k l u v e (place-of (moment workers choices n) x) → ⊥
+-- No other edge than e is on trial, in the list of any vertex, from the moment `first` to the moment `last`.
+abbrev pub Undisturbed : ℕ → List Choice → ℕ → ℕ → ℕ → Type 0
+Undisturbed workers choices e first last =
+    (n : ℕ) → first ≤ n → n ≤ last → (x f : ℕ) → TrialEdge (moment workers choices n .catalogue) x f → f ≡ e

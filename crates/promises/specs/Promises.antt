@@ -23,7 +23,7 @@ use Rattle.promises.specs.Graphs.{Graph, empty, live, Walk}
 use Rattle.promises.specs.Alone.{Ask, Alone}
 use Rattle.promises.specs.Bounds.{ConVBound, ConEBound, TrialBound, TrialAlone}
 use Rattle.promises.specs.Histories.{history, in-row, replies-of}
-use Rattle.promises.specs.Outside.{Replies, left, Lacks, Rival, Lives, Crosses, Closes, Undisturbed}
+use Rattle.promises.specs.Outside.{Replies, left, Lacks, Tries, Rival, TrialEdge, Tried, Lives, Crosses, Closes, Undisturbed}
 
 -- No series is derived from itself, over however many derivations between live series.
 abbrev pub NoLoop : Type 0
@@ -101,18 +101,25 @@ OnTrial =
     (workers : ℕ) (choices : List Choice) → Given workers choices → (w : ℕ) → w < workers → let m = at workers choices in
     Replies m w 7 → let r = request-of (place-of m w) in Rival workers m w (r .k) (r .l) × (left m w ≡ m .catalogue)
 
+-- The edges on trial are the own edges of the workers that try: each is tried by exactly one, and what a worker tries is on trial in the list of its u.
+abbrev pub EdgesTried : Type 0
+EdgesTried =
+    (workers : ℕ) (choices : List Choice) → Given workers choices → let m = at workers choices in
+    ((x e : ℕ) → TrialEdge (m .catalogue) x e → Tried workers m x e)
+    × ((w : ℕ) → w < workers → (k l : ℤ) (u v e : ℕ) → Tries k l u v e (place-of m w) → TrialEdge (m .catalogue) u e)
+
 -- Reply 6 is given only where the trial has come from the target back to the source, over edges that stood when they were crossed. Nothing live changes.
 abbrev pub Cycle : Type 0
 Cycle =
     (workers : ℕ) (choices : List Choice) → Given workers choices → (w : ℕ) → w < workers → let m = at workers choices in
     Replies m w 6 → Closes workers choices w × (live (left m w) ≡ live (m .catalogue))
 
--- If nobody else tried anything meanwhile, the pair would have closed a loop when it was put in: whatever the trial crossed was live then, and so a walk led
+-- If no other edge was on trial meanwhile, the pair would have closed a loop when it was put in: whatever the trial crossed was live then, and so a walk led
 -- from l to k.
 abbrev pub CycleAlone : Type 0
 CycleAlone =
     (workers : ℕ) (choices : List Choice) → Given workers choices → (w : ℕ) → w < workers → (z : Closes workers choices w)
-    → Undisturbed workers choices w (z .first) (length choices) → let C = moment workers choices (z .first) .catalogue in
+    → Undisturbed workers choices (z .e) (z .first) (length choices) → let C = moment workers choices (z .first) .catalogue in
     ((n x y : ℕ) → z .first ≤ n → n < length choices → (r : Crosses workers choices w (z .k) (z .l) (z .u) (z .v) (z .e) n x y) → Lives C x (r .edge) y)
     × Walk (live C) (z .k) (z .l)
 
@@ -129,6 +136,7 @@ pub record Promises : Type 0 where
   pub one-outcome : OneOutcome
   pub no-room : NoRoom
   pub on-trial : OnTrial
+  pub edges-tried : EdgesTried
   pub cycle : Cycle
   pub cycle-alone : CycleAlone
   pub con-v-bound : ConVBound

@@ -1,8 +1,8 @@
--- While nobody else tries anything, no edge is put in: whoever puts one in tries it then. Assumes nothing.
+-- While no other edge is on trial, no edge is put in: whoever puts one in has it on trial then. Assumes nothing.
 use Prim.Native.Nat.{ℕ, zero, suc, _≤_, _<_}
 use mathlib.Core.List.{List}
 use mathlib.Core.Logic.{inl, inr}
-use mathlib.Core.Path.{_≡_, refl, ap, sym, subst}
+use mathlib.Core.Path.{_≡_, ap, sym, _∙_, subst}
 use native.Mathlib.Omega.{arith}
 use lib.IntN.{ℤ}
 use lib.ListN.{length}
@@ -17,11 +17,12 @@ use Rattle.promises.specs.Moments.{Given, moment}
 use Rattle.promises.specs.Outside.{Lasts, Undisturbed}
 use Rattle.promises.proofs.Runs.Held.{Held}
 use Rattle.promises.proofs.Outside.Run.{run, run-next}
-use Rattle.promises.proofs.Outside.Spots.{Trying, trier, trying-spot}
+use Rattle.promises.proofs.Outside.Spots.{Trying, trying-spot}
+use Rattle.promises.proofs.Outside.Tried.{trial-edge, own-tried}
 use Rattle.promises.proofs.Outside.Calm.{Calm, calm-same, calm-on, act-calm}
 
 module _ (workers : ℕ) (choices : List Choice) (g : Given workers choices) (w : ℕ) (low : w < workers) (k l : ℤ) (u v e first : ℕ)
-    (o : Lasts workers choices w k l u v e first (length choices)) (quiet : Undisturbed workers choices w first (length choices)) where
+    (o : Lasts workers choices w k l u v e first (length choices)) (quiet : Undisturbed workers choices e first (length choices)) where
   abbrev last : ℕ
   last = length choices
 
@@ -47,14 +48,14 @@ module _ (workers : ℕ) (choices : List Choice) (g : Given workers choices) (w 
     pub own-ok : Pair (W n) k l u v × Own (W n .e) l u v e
     own-ok = let z : Ok (W n) (Trial k l u v e (mine .hunt)) = rw (mine .is) at (held n .fine .ok w) in (z .0, z .1)
 
-    pub own-is : own (X n .at w) ≡ e
+    own-is : own (X n .at w) ≡ e
     own-is = ap own (mine .is)
 
-    pub nobody-else : (x : ℕ) → (x ≡ w → ⊥) → 1 ≤ own (X n .at x) → ⊥
+    nobody-else : (x : ℕ) → (x ≡ w → ⊥) → 1 ≤ own (X n .at x) → ⊥
     nobody-else x d h =
-        let z = trier workers (M n) (X n) (held n) (g .most) x (own (X n .at x)) h refl in
-        let i = z .trial in
-        quiet n a b x (z .inside) d (i .k) (i .l) (i .u) (i .v) (own (X n .at x)) (z .tries)
+        let f = own (X n .at x) in
+        let t = trial-edge workers (M n) (X n) (held n) f (own-tried workers (M n) (X n) (held n) x h) in
+        held n .fine .apart x w d h (quiet n a b (W n .e .owner f) f t ∙ sym own-is)
 
   -- ---- nobody puts an edge in
 

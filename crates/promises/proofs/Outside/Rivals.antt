@@ -65,7 +65,7 @@ record Tried (W : World) (l : ℤ) (u c : ℕ) (p : Prev) : Type 0 where
   on : OnTrial W c
   key : W .e .key c ≡ l
 
-tag-is : (t : Tag) → edge-tag-of t ≡ 2 → t ≡ transit
+pub tag-is : (t : Tag) → edge-tag-of t ≡ 2 → t ≡ transit
 tag-is marked e = absurd (omega arith)
 tag-is transit e = refl
 tag-is added e = absurd (omega arith)

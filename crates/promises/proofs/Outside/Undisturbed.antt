@@ -1,9 +1,8 @@
--- A trial that nobody disturbs crosses edges that were live when it began: an edge on trial would be somebody's, and nobody puts one in. So its chain back to
+-- A trial that nothing disturbs crosses edges that were live when it began: no other was on trial then, and nobody puts one in. So its chain back to
 -- the source is a walk of the live graph of that moment. Assumes nothing.
 use Prim.Native.Nat.{ℕ, _≤_, _<_}
 use mathlib.Core.Bool.{true, false}
 use mathlib.Core.List.{List}
-use mathlib.Core.Logic.{inl, inr}
 use mathlib.Core.Path.{_≡_, refl, ap, sym, _∙_}
 use native.Mathlib.Omega.{arith}
 use lib.IntN.{ℤ}
@@ -14,7 +13,6 @@ use Rattle.catalogue.specs.Runs.{Choice, Moment}
 use Rattle.catalogue.specs.declared.links.EdgeLink.the-variants as edge
 use Rattle.catalogue.specs.declared.links.Target.the-variants as target
 use Rattle.laws.proofs.Picks.{clash}
-use Rattle.row.specs.Base.{same?}
 use Rattle.row.specs.Lists.Store
 use Rattle.row.specs.Tests.{not-true}
 use Rattle.row.specs.Lists.Edges.{Tag, marked, transit, added, is-marked}
@@ -23,7 +21,6 @@ use Rattle.row.specs.Machine.Runs.{Conf}
 use Rattle.row.specs.Graphs.Good.{WGood}
 use Rattle.row.specs.Graphs.Graph.{edge-yes}
 use Rattle.row.specs.Graphs.Older.{LiveE}
-use Rattle.row.specs.Steps.Spots.{own}
 use Rattle.promises.specs.Moments.{Given, moment}
 use Rattle.promises.specs.Graphs.{Walk, here, over}
 use Rattle.promises.specs.Graphs
@@ -39,7 +36,8 @@ use Rattle.promises.proofs.Runs.Held.{Held}
 use Rattle.promises.proofs.Outside.Run.{run}
 use Rattle.promises.proofs.Outside.Crossing.{plain-tag, open-spot}
 use Rattle.promises.proofs.Outside.Chains.{known}
-use Rattle.promises.proofs.Outside.Quiet.{own-ok, own-is, nobody-else, calm-to}
+use Rattle.promises.proofs.Outside.Tried.{trial-edge}
+use Rattle.promises.proofs.Outside.Quiet.{own-ok, calm-to}
 
 -- the tail has no link
 no-link : (C : Catalogue) (e next tag : ℕ) → edge-link C e ≡ edge.At next tag → e ≡ 0 → ⊥
@@ -47,7 +45,7 @@ unfolding edge-link-in
 no-link C e next tag q z = clash (cc (rw z at q))
 
 module _ (workers : ℕ) (choices : List Choice) (g : Given workers choices) (w : ℕ) (low : w < workers) (k l : ℤ) (u v e first : ℕ)
-    (o : Lasts workers choices w k l u v e first (length choices)) (quiet : Undisturbed workers choices w first (length choices)) where
+    (o : Lasts workers choices w k l u v e first (length choices)) (quiet : Undisturbed workers choices e first (length choices)) where
   abbrev last : ℕ
   last = length choices
 
@@ -85,11 +83,8 @@ module _ (workers : ℕ) (choices : List Choice) (g : Given workers choices) (w 
       by marked q = clash (cc (i .plain, ap is-marked q))
       by added q = q
       by transit q =
-          let z = held first .fine .tried f (record { low = i .low; high = i .high; tried = q }) in
-          elim (same? (z .0) w) [
-            | inl s ↦ absurd (d (sym (z .1) ∙ ap (λ x. own (X first .at x)) s ∙ own-is workers choices g w low k l u v e first o quiet first (omega arith) (o .started)))
-            | inr s ↦ absurd (nobody-else workers choices g w low k l u v e first o quiet first (omega arith) (o .started) (z .0) s (rw (z .1) (i .low)))
-          ]
+          absurd (d (quiet first (omega arith) (o .started) (S .e .owner f) f
+          (trial-edge workers (M first) (X first) (held first) f (record { low = i .low; high = i .high; tried = q }))))
 
   unmarked-is : (n x : ℕ) → Series (W n .v .used) x → unmarked (M n .catalogue) x ≡ true → W n .v .marked x ≡ false
   unmarked-is n x a q =
