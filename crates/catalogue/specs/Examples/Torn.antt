@@ -184,7 +184,7 @@ pub checked : map answered table ≡ map stated table
 unfolding found after list-into
 checked = refl
 
--- Fields that the place does not use are zero after a step, whatever stood there.
+-- A step leaves zeros in what its new place has no use for, whatever stood there.
 pub cleared : step whole (put (idle-table 1) 0 (in-trial (ConV (pos 7) 2) 1 2)) 0 .table ≡ put (idle-table 1) 0 (bare (ConV (pos 7) 3))
 unfolding found after
 cleared = refl

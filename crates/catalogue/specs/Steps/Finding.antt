@@ -29,7 +29,7 @@ decide-contains k found.Missing = Reply 2 Nothing
 unfoldable pub step-contains : Catalogue → ℤ → ℕ → Decision
 step-contains C k c = decide-contains k (look-for C k c)
 
--- A vertex that is not found: reply 3, or 8 for ConE.
+-- What is told of a missing vertex: 8 by ConE, 3 by the others.
 unfoldable pub not-found : ℕ → ℕ
 not-found code = pick (eqb code 6) 8 3
 
