@@ -1,20 +1,14 @@
--- What the walks speak of: the machine values of a table, the parts of what a call gives, the slices that are lent, and the numbers on the way to a record. Assumes nothing.
+-- What the walks speak of: the machine values of a table, the parts of what a call gives, and the numbers on the way to a record. Assumes nothing.
 use Prim.Native.Nat.{ℕ, _+_, _*_, _<_, _^_}
 use mathlib.Core.List.{List, [], _∷_}
 use mathlib.Core.Path.{_≡_, refl, sym, _∙_}
 use native.Mathlib.Omega.{arith}
-use lib.IntN.{ℤ}
 use lib.ListN.{length, length-map}
-use mir.Syntax.{named}
 use mir.Val.{Val}
-use base.Fml.{Lft, Fml}
 use prog.Memory.{size}
-use denote.Builtin.{u32, i32}
 use denote.Index.{place-is}
 use denote.Laws.{Is}
 use denote.Memory.{lone}
-use denote.Ref.{RefT}
-use denote.Slice.{slice-vals, MutSlice}
 use denote.Struct.Laws as LL
 use Rattle.host.specs.Kept.{slot, table-size}
 use Rattle.host.specs.declared.kept.Kept.{Kept}
@@ -26,12 +20,6 @@ use Rattle.host.proofs.one.Moved as S
 use Rattle.host.proofs.one.Moved.Laws as S′
 use Rattle.host.proofs.Cells.{record-place, record-vals}
 
-abbrev pub Keys : Type 0
-Keys = RefT (List ℤ)
-
-abbrev pub Words : Type 0
-Words = RefT (List ℕ)
-
 -- its one machine value
 abbrev pub kept-vals : Kept → List Val
 kept-vals = LL.vals K.the-type K′.the-laws
@@ -39,17 +27,6 @@ kept-vals = LL.vals K.the-type K′.the-laws
 -- a table that is there has eight records
 pub eight-records : (t : Kept) (v : Val) → Is K.the-row t (v ∷ []) → length (t .records) ≡ 8
 eight-records t v is = sym (length-map (t .records) _) ∙ LL.owed K.the-type K′.the-laws t (v ∷ []) is .1 .0 .1 .0 .1
-
--- what the lent slices own
-abbrev pub own-keys : Lft → Keys → Fml
-own-keys κ x = MutSlice (named 0) κ i32 .own x (slice-vals x)
-
-abbrev pub own-words : Lft → Words → Fml
-own-words κ x = MutSlice (named 1) κ u32 .own x (slice-vals x)
-
--- each last list is as long as the list lent
-abbrev pub Long : Keys → Words → List ℤ → List ℕ → Type 0
-Long keys words zk zw = (length zk ≡ length (keys .now)) × (length zw ≡ length (words .now))
 
 -- the record's number, and how far it lies from the first
 pub slot-below : (n : ℕ) → slot n < 8

@@ -1,15 +1,8 @@
--- What both walks speak of: the machine values of a record, of an answer and of what a step gives, the slices that are lent, and what a step leaves. Definitions. Assumes nothing.
+-- What both walks speak of: the machine values of a record, of an answer and of what a step gives, and what a step leaves. Definitions. Assumes nothing.
 use Prim.Native.Nat.{ℕ}
 use mathlib.Core.List.{List}
-use mathlib.Core.Path.{_≡_}
 use lib.IntN.{ℤ}
-use lib.ListN.{length}
-use mir.Syntax.{named}
 use mir.Val.{Val}
-use base.Fml.{Lft, Fml}
-use denote.Builtin.{u32, i32}
-use denote.Ref.{RefT}
-use denote.Slice.{slice-vals, MutSlice}
 use denote.Enum.Laws as EL
 use denote.Struct.Laws as LL
 use Rattle.catalogue.specs.Catalogue.{Catalogue}
@@ -20,18 +13,13 @@ use Rattle.catalogue.specs.declared.answers.Answer.{Answer}
 use Rattle.catalogue.specs.declared.answers.Stepped.{Stepped}
 use Rattle.catalogue.specs.declared.workers.Worker.{Worker}
 use Rattle.memory.specs.Memories.{Hold}
+use Rattle.memory.proofs.Slices.{Keys, Words}
 use Rattle.catalogue.proofs.answers.Answer as U
 use Rattle.catalogue.proofs.answers.Answer.Laws as U′
 use Rattle.catalogue.proofs.answers.Stepped as S
 use Rattle.catalogue.proofs.answers.Stepped.Laws as S′
 use Rattle.catalogue.proofs.workers.Worker as T
 use Rattle.catalogue.proofs.workers.Worker.Laws as T′
-
-abbrev pub Keys : Type 0
-Keys = RefT (List ℤ)
-
-abbrev pub Words : Type 0
-Words = RefT (List ℕ)
 
 -- one machine value each
 abbrev pub worker-val : Worker → Val
@@ -45,17 +33,6 @@ answer-val = EL.val U.the-type U′.the-laws
 
 abbrev pub stepped-val : Stepped → Val
 stepped-val = LL.val S.the-type S′.the-laws
-
--- what the lent slices own
-abbrev pub own-keys : Lft → Keys → Fml
-own-keys κ x = MutSlice (named 0) κ i32 .own x (slice-vals x)
-
-abbrev pub own-words : Lft → Words → Fml
-own-words κ x = MutSlice (named 1) κ u32 .own x (slice-vals x)
-
--- each last list is as long as the list lent
-abbrev pub Long : Keys → Words → List ℤ → List ℕ → Type 0
-Long keys words zk zw = (length zk ≡ length (keys .now)) × (length zw ≡ length (words .now))
 
 module _ (keys : Keys) (words : Words) (w : Worker) where
   abbrev lent : Catalogue

@@ -105,24 +105,30 @@ module _ {A : Type 0} where
   map-same f g [] h = refl
   map-same f g (x ∷ l) h = ap₂ (λ b r. b ∷ r) (h .0) (map-same f g l (h .1))
 
--- ---- the test of membership
+-- ---- tests of membership: a thing is looked for from the front, with a test that it alone passes
+
+module _ {A : Type 0} (same : A → A → Bool) (within : A → List A → Bool)
+    (in-none : (y : A) → within y [] ≡ false) (in-pair : (y x : A) (l : List A) → within y (x ∷ l) ≡ pick (same y x) true (within y l)) where
+  pub all-within : ((x : A) → same x x ≡ true) → (l : List A) → All (λ x. within x l ≡ true) l
+  all-within self [] = tt
+  all-within self (x ∷ l) = (
+    rw (in-pair x x l, self x),
+    all-each (λ y. within y l ≡ true) (λ y. within y (x ∷ l) ≡ true) (λ y e. rw (in-pair y x l) (pick-both (λ t. t ≡ true) (same y x) true (within y l) (λ q. refl) (λ q. e)))
+        l (all-within self l),
+  )
+
+  pub of-within : ((y x : A) → same y x ≡ true → y ≡ x) → (P : A → Type 0) (l : List A) → All P l → (y : A) → within y l ≡ true → P y
+  of-within is P [] h y m = clash (cc (in-none y))
+  of-within is P (x ∷ l) h y m =
+      pick-both (λ t. t ≡ true → P y) (same y x) true (within y l) (λ q e. rw (is y x q) (h .0)) (λ q. of-within is P l (h .1) y) (rw (in-pair y x l) at m)
 
 pub all-member : (l : List ℕ) → All (λ x. member x l ≡ true) l
 unfolding member
-all-member [] = tt
-all-member (x ∷ l) = (
-  rw (eq-eqb x x refl) refl,
-  all-each (λ y. member y l ≡ true) (λ y. member y (x ∷ l) ≡ true) (λ y e. pick-both (λ t. t ≡ true) (eqb y x) true (member y l) (λ q. refl) (λ q. e)) l (all-member l),
-)
+all-member = all-within eqb member (λ y. refl) (λ y x l. refl) (λ x. eq-eqb x x refl)
 
 pub all-of : (P : ℕ → Type 0) (l : List ℕ) → All P l → (y : ℕ) → member y l ≡ true → P y
 unfolding member
-all-of P [] h y m = clash (cc)
-all-of P (x ∷ l) h y m = by (eqb y x) refl m (all-of P l (h .1) y)
-  where
-    by : (t : Bool) → eqb y x ≡ t → pick t true (member y l) ≡ true → (member y l ≡ true → P y) → P y
-    by true e m rest = rw (eqb-true y x e) (h .0)
-    by false e m rest = rest m
+all-of = of-within eqb member (λ y. refl) (λ y x l. refl) eqb-true
 
 pub member-keep : (test : ℕ → Bool) (y : ℕ) (l : List ℕ) → member y l ≡ true → test y ≡ true → member y (keep test l) ≡ true
 unfolding member keep

@@ -40,33 +40,21 @@ module _ {A : Type 0} {P : A → Type 0} where
   -- the same read
   pub vertex-twin : (l l′ : VertexLink) {torn torn′ : A} {f f′ : ℕ → ℕ → A} → l ≡ l′ → Twin P torn torn′
       → ((next tag : ℕ) → l ≡ vertex.At next tag → Twin P (f next tag) (f′ next tag)) → Twin P (at-vertex l torn f) (at-vertex l′ torn′ f′)
-  vertex-twin l l′ {torn} {torn′} {f} {f′} e t g = rw (← e) (by l refl)
-    where
-      by : (r : VertexLink) → l ≡ r → Twin P (at-vertex r torn f) (at-vertex r torn′ f′)
-      by (vertex.At next tag) q = g next tag q
-      by vertex.Torn q = t
+  vertex-twin (vertex.At next tag) l′ e t g = rw (← e) (g next tag refl)
+  vertex-twin vertex.Torn l′ e t g = rw (← e) t
 
   pub edge-twin : (l l′ : EdgeLink) {torn torn′ : A} {f f′ : ℕ → ℕ → A} → l ≡ l′ → Twin P torn torn′
       → ((next tag : ℕ) → l ≡ edge.At next tag → Twin P (f next tag) (f′ next tag)) → Twin P (at-edge l torn f) (at-edge l′ torn′ f′)
-  edge-twin l l′ {torn} {torn′} {f} {f′} e t g = rw (← e) (by l refl)
-    where
-      by : (r : EdgeLink) → l ≡ r → Twin P (at-edge r torn f) (at-edge r torn′ f′)
-      by (edge.At next tag) q = g next tag q
-      by edge.Torn q = t
+  edge-twin (edge.At next tag) l′ e t g = rw (← e) (g next tag refl)
+  edge-twin edge.Torn l′ e t g = rw (← e) t
 
   pub target-twin : (l l′ : Target) {torn torn′ : A} {f f′ : ℕ → A} → l ≡ l′ → Twin P torn torn′
       → ((n : ℕ) → l ≡ target.At n → Twin P (f n) (f′ n)) → Twin P (at-target l torn f) (at-target l′ torn′ f′)
-  target-twin l l′ {torn} {torn′} {f} {f′} e t g = rw (← e) (by l refl)
-    where
-      by : (r : Target) → l ≡ r → Twin P (at-target r torn f) (at-target r torn′ f′)
-      by (target.At n) q = g n q
-      by target.Torn q = t
+  target-twin (target.At n) l′ e t g = rw (← e) (g n refl)
+  target-twin target.Torn l′ e t g = rw (← e) t
 
   pub both-twin : (l l′ : BothSeen) {torn dead standing torn′ dead′ standing′ : A} → l ≡ l′ → Twin P torn torn′ → Twin P dead dead′
       → Twin P standing standing′ → Twin P (at-both l torn dead standing) (at-both l′ torn′ dead′ standing′)
-  both-twin l l′ {torn} {dead} {standing} {torn′} {dead′} {standing′} e t d s = rw (← e) (by l)
-    where
-      by : (r : BothSeen) → Twin P (at-both r torn dead standing) (at-both r torn′ dead′ standing′)
-      by both.Torn = t
-      by both.Dead = d
-      by both.Standing = s
+  both-twin both.Torn l′ e t d s = rw (← e) t
+  both-twin both.Dead l′ e t d s = rw (← e) d
+  both-twin both.Standing l′ e t d s = rw (← e) s

@@ -8,3 +8,4 @@ pub mod Stores
 pub mod Commits
 pub mod Fills
 pub mod Zeros
+pub mod Slices

@@ -23,7 +23,7 @@ use Rattle.laws.proofs.Gathers.{gather-same}
 use Rattle.resting.specs.Sound.{edges-few}
 use Rattle.resting.specs.Vertices.{live-few}
 use Rattle.resting.specs.Shape.{vertices-row, live-row, unmarked-at, each-vertex}
-use Rattle.resting.specs.Shares.{start, shares-length, edges-row, edge-keys-row, number-key}
+use Rattle.resting.specs.Shares.{start, number, size, shares-length, edges-row, edge-keys-row, number-key}
 use Rattle.resting.specs.Targets.{Leads, leads, is-live-row, list-live}
 use Rattle.resting.specs.Standing.{Stands, stands-in, lists-row}
 use Rattle.resting.specs.Lines.{vertex-lines-kept, edge-lines-kept}
@@ -95,13 +95,13 @@ module _ (asks : Asks) (C : Catalogue) (s : sound asks C ≡ true) where
 
   -- A live vertex, by those before it: its new number has its key, and the numbers of its edges are a row with their keys.
   module _ (front : List ℕ) (x : ℕ) (rest : List ℕ) (split : live-vertices C ≡ front ++ x ∷ rest) where
-    pub new-key : vertex-key (swept C) (2 + length front) ≡ vertex-key C x
+    pub new-key : vertex-key (swept C) (number front) ≡ vertex-key C x
     new-key = number-key asks C s front x rest split
 
-    pub new-edges : edges-of (swept C) (2 + length front) ≡ row (start C front) (length (live-edges-of C x))
+    pub new-edges : edges-of (swept C) (number front) ≡ row (start C front) (size C x)
     new-edges = edges-row asks C s front x rest split
 
-    pub new-edge-keys : map (edge-key (swept C)) (edges-of (swept C) (2 + length front)) ≡ map (edge-key C) (live-edges-of C x)
+    pub new-edge-keys : map (edge-key (swept C)) (edges-of (swept C) (number front)) ≡ map (edge-key C) (live-edges-of C x)
     new-edge-keys = ap (map (edge-key (swept C))) new-edges ∙ edge-keys-row asks C s front x rest split
 
   -- An edge number: the live vertex in whose list it stands; that it is live; and the vertex to which it leads, which has the edge's key.

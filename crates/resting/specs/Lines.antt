@@ -14,7 +14,7 @@ use Rattle.laws.proofs.Members.{keep-all}
 use Rattle.resting.specs.Rows.{row, numbered, gather-row}
 use Rattle.laws.proofs.Gathers.{gather-length}
 use Rattle.resting.specs.Shape.{live-row, keys-row}
-use Rattle.resting.specs.Shares.{start, edges-row, edge-keys-row, number-key}
+use Rattle.resting.specs.Shares.{start, number, size, edges-row, edge-keys-row, number-key}
 use Rattle.resting.specs.Targets.{list-live}
 
 -- the lines of one vertex's edges
@@ -32,14 +32,12 @@ module _ (asks : Asks) (C : Catalogue) (s : sound asks C ≡ true) where
       ∙ ap (map (λ k. k ∷ [])) (keys-row asks C s)
       ∙ map-map (λ k. k ∷ []) (vertex-key C) (live-vertices C)
 
-  lines-kept : (front : List ℕ) (x : ℕ) (rest : List ℕ) → live-vertices C ≡ front ++ x ∷ rest → lines-of (swept C) (2 + length front) ≡ lines-of C x
+  lines-kept : (front : List ℕ) (x : ℕ) (rest : List ℕ) → live-vertices C ≡ front ++ x ∷ rest → lines-of (swept C) (number front) ≡ lines-of C x
   lines-kept front x rest split =
-      let from : ℕ = start C front in
-      let size : ℕ = length (live-edges-of C x) in
-      let key : ℤ = vertex-key (swept C) (2 + length front) in
+      let key : ℤ = vertex-key (swept C) (number front) in
       ap (map (λ e. key ∷ edge-key (swept C) e ∷ []))
-      (keep-all (is-live (swept C)) (edges-of (swept C) (2 + length front)) (list-live asks C s front x rest split) ∙ edges-row asks C s front x rest split)
-      ∙ sym (map-map (λ l. key ∷ l ∷ []) (edge-key (swept C)) (row from size))
+      (keep-all (is-live (swept C)) (edges-of (swept C) (number front)) (list-live asks C s front x rest split) ∙ edges-row asks C s front x rest split)
+      ∙ sym (map-map (λ l. key ∷ l ∷ []) (edge-key (swept C)) (row (start C front) (size C x)))
       ∙ ap₂ (λ k. map (λ l. k ∷ l ∷ [])) (number-key asks C s front x rest split) (edge-keys-row asks C s front x rest split)
       ∙ map-map (λ l. vertex-key C x ∷ l ∷ []) (edge-key C) (live-edges-of C x)
 

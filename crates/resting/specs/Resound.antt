@@ -32,7 +32,7 @@ use Rattle.resting.specs.Vertices.{live-few, live-over, live-rising, liv
 use Rattle.resting.specs.Edges.{edges-rising, edges-under}
 use Rattle.resting.specs.Reads.{head-at, head-key, vertex-at}
 use Rattle.resting.specs.Shape.{vertices-end, vertices-row, keys-row, each-vertex}
-use Rattle.resting.specs.Shares.{start, link-row, first-link-row, edges-end, edges-row, edge-keys-row}
+use Rattle.resting.specs.Shares.{start, number, stop, size, link-row, first-link-row, edges-end, edges-row, edge-keys-row}
 use Rattle.resting.specs.Targets.{Leads, leads-row}
 use Rattle.resting.specs.Lines.{lines-length, edge-lines-kept}
 
@@ -97,17 +97,14 @@ module _ (asks : Asks) (C : Catalogue) (s : sound asks C ≡ true) where
 
   -- Edges.
   module _ (front : List ℕ) (x : ℕ) (rest : List ℕ) (split : live-vertices C ≡ front ++ x ∷ rest) where
-    abbrev number : ℕ
-    number = 2 + length front
-
     abbrev edges : List ℕ
-    edges = row (start C front) (length (live-edges-of C x))
+    edges = row (start C front) (size C x)
 
     listed : edges-sound asks C x ≡ true
     listed = all-parts (λ y. edges-sound asks C y ≡ true) front (x ∷ rest) (subst (All (λ y. edges-sound asks C y ≡ true)) split (lists-sound asks C s)) .1 .0
 
     abbrev There : ℕ → Type 0
-    There e = (start C front ≤ e) × (e < start C front + length (live-edges-of C x))
+    There e = (start C front ≤ e) × (e < stop C front x)
 
     abbrev Climb : ℕ → Type 0
     Climb e = edge-key (swept C) e <ℤ edge-key (swept C) (next-edge (swept C) e)
@@ -115,7 +112,7 @@ module _ (asks : Asks) (C : Catalogue) (s : sound asks C ≡ true) where
     edges-climb : Climbs (next-edge (swept C)) edge-tail (edge-key (swept C)) edges
     unfolding edge-key-in
     edges-climb =
-        climbs (next-edge (swept C)) edge-tail (edge-key (swept C)) (first-edge (swept C) number) edges (edges-end asks C s front x rest split)
+        climbs (next-edge (swept C)) edge-tail (edge-key (swept C)) (first-edge (swept C) (number front)) edges (edges-end asks C s front x rest split)
         (rw (edge-keys-row asks C s front x rest split) (edges-rising asks C x listed))
         (rw (edge-keys-row asks C s front x rest split) (edges-under asks C x listed))
 
@@ -125,19 +122,18 @@ module _ (asks : Asks) (C : Catalogue) (s : sound asks C ≡ true) where
         ∙ rw (d .keyed, eqZ-refl (edge-key (swept C) e), vertex-at C (live-few asks C s) (d .to) (d .low) (d .high), vertices-row asks C s) (member-row (d .to) 2 count (d .low) (d .high))
 
     module _ (asked : Asks) where
-      edge-holds : (e : ℕ) → start C front ≤ e → e < start C front + length (live-edges-of C x) → Climb e → edge-sound asked (swept C) e ≡ true
+      edge-holds : (e : ℕ) → start C front ≤ e → e < stop C front x → Climb e → edge-sound asked (swept C) e ≡ true
       edge-holds e a b up =
-          let last : ℕ = start C front + length (live-edges-of C x) in
           edge-passes (edge-key (swept C) e) (edge-key (swept C)) (tag-fits asked) (at-target (edge-target (swept C) e) false (target-sound (swept C) e)) (edge-link (swept C) e)
-          (pick (ltb (suc e) last) (suc e) edge-tail) added (link-row asks C s front x rest split e a b) (any-fits asked) up
+          (pick (ltb (suc e) (stop C front x)) (suc e) edge-tail) added (link-row asks C s front x rest split e a b) (any-fits asked) up
           (target-holds e (leads-row asks C s front x rest split e a b))
 
-      list-holds : edges-sound asked (swept C) number ≡ true
+      list-holds : edges-sound asked (swept C) (number front) ≡ true
       list-holds =
           rw (edges-row asks C s front x rest split, first-link-row asks C s front x rest split)
           (all-every (edge-sound asked (swept C)) edges
           (all-each (λ e. There e × Climb e) (λ e. edge-sound asked (swept C) e ≡ true) (λ e g. edge-holds e (g .0 .0) (g .0 .1) (g .1)) edges
-          (all-join There Climb edges (all-row There (start C front) (length (live-edges-of C x)) (λ e a b. (a, b))) edges-climb)))
+          (all-join There Climb edges (all-row There (start C front) (size C x) (λ e a b. (a, b))) edges-climb)))
 
   lists-hold : (asked : Asks) → every (edges-sound asked (swept C)) (live-vertices (swept C)) ≡ true
   lists-hold asked =

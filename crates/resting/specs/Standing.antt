@@ -15,7 +15,7 @@ use Rattle.catalogue.specs.Soundness.{Asks, sound}
 use Rattle.catalogue.specs.Sweep.{swept}
 use Rattle.resting.specs.Rows.{row, row-append}
 use Rattle.laws.proofs.Gathers.{gather-append}
-use Rattle.resting.specs.Shares.{start, edges-row}
+use Rattle.resting.specs.Shares.{start, stop, size, edges-row}
 
 -- the live vertex in whose list an edge number stands, with those before and behind it
 pub record Stands (C : Catalogue) (e : ℕ) : Type 0 where
@@ -24,14 +24,14 @@ pub record Stands (C : Catalogue) (e : ℕ) : Type 0 where
   pub rest : List ℕ
   pub split : live-vertices C ≡ front ++ source ∷ rest
   pub low : start C front ≤ e
-  pub high : e < start C front + length (live-edges-of C source)
+  pub high : e < stop C front source
 
 module _ (C : Catalogue) where
   abbrev held : List ℕ → List ℕ
   held = gather (live-edges-of C)
 
   -- the edges of the next vertex begin where those of this one end
-  start-next : (front : List ℕ) (x : ℕ) → start C (front ++ (x ∷ [])) ≡ start C front + length (live-edges-of C x)
+  start-next : (front : List ℕ) (x : ℕ) → start C (front ++ (x ∷ [])) ≡ stop C front x
   unfolding gather
   start-next front x =
       omega (arith, ap length (gather-append (live-edges-of C) front (x ∷ [])), length-append (held front) (live-edges-of C x ++ []), length-append (live-edges-of C x) [])
@@ -39,13 +39,13 @@ module _ (C : Catalogue) where
   seek : (e : ℕ) (front l : List ℕ) → live-vertices C ≡ front ++ l → start C front ≤ e → e < start C front + length (held l) → Stands C e
   unfolding gather
   seek e front [] split a b = absurd (omega arith)
-  seek e front (x ∷ l) split a b = by (ltb e (start C front + length (live-edges-of C x))) refl (seek e (front ++ (x ∷ [])) l (split ∙ sym (append-snoc front x l)))
+  seek e front (x ∷ l) split a b = by (ltb e (stop C front x)) refl (seek e (front ++ (x ∷ [])) l (split ∙ sym (append-snoc front x l)))
     where
-      by : (t : Bool) → ltb e (start C front + length (live-edges-of C x)) ≡ t
+      by : (t : Bool) → ltb e (stop C front x) ≡ t
           → (start C (front ++ (x ∷ [])) ≤ e → e < start C (front ++ (x ∷ [])) + length (held l) → Stands C e) → Stands C e
-      by true q on = record { front = front; source = x; rest = l; split = split; low = a; high = ltb-true e (start C front + length (live-edges-of C x)) q }
+      by true q on = record { front = front; source = x; rest = l; split = split; low = a; high = ltb-true e (stop C front x) q }
       by false q on =
-          let past : start C front + length (live-edges-of C x) ≤ e = ltb-false e (start C front + length (live-edges-of C x)) q in
+          let past : stop C front x ≤ e = ltb-false e (stop C front x) q in
           on (omega (arith, start-next front x)) (omega (arith, start-next front x, length-append (live-edges-of C x) (held l)))
 
   pub stands-in : (e : ℕ) → 1 ≤ e → e ≤ length (held (live-vertices C)) → Stands C e
@@ -66,5 +66,5 @@ module _ (asks : Asks) (C : Catalogue) (s : sound asks C ≡ true) where
       (ap (λ k. gather (edges-of (swept C)) (row k (length l))) number
       ∙ lists-row (front ++ one) l (e ∙ sym (append-snoc front x l))
       ∙ ap (λ k. row k (length others)) (start-next C front x))
-      ∙ sym (row-append (start C front) (length (live-edges-of C x)) (length others))
+      ∙ sym (row-append (start C front) (size C x) (length others))
       ∙ ap (row (start C front)) (sym (length-append (live-edges-of C x) others))

@@ -9,7 +9,7 @@ use lib.Dec.{eqb}
 use Rattle.catalogue.specs.Tests.{pick}
 use Rattle.catalogue.specs.Numbers.{added}
 use Rattle.catalogue.specs.Catalogue.{Catalogue, vertex-key, edge-key, edge-target, at-edge, at-target}
-use Rattle.catalogue.specs.Live.{edges-of, unmarked, is-added, is-live, live-vertices, live-edges-of}
+use Rattle.catalogue.specs.Live.{edges-of, unmarked, is-added, is-live, live-vertices}
 use Rattle.catalogue.specs.Soundness.{Asks, sound}
 use Rattle.catalogue.specs.Sweep.{swept-edges, swept}
 use Rattle.catalogue.specs.declared.links.Target.the-variants as target
@@ -20,7 +20,7 @@ use Rattle.resting.specs.Edges.{Aimed, all-aimed}
 use Rattle.resting.specs.Blocks.{blank}
 use Rattle.resting.specs.Reads.{target-at, edge-key-at, vertex-key-at}
 use Rattle.resting.specs.Shape.{unmarked-at}
-use Rattle.resting.specs.Shares.{start, row-low, link-row, edges-row}
+use Rattle.resting.specs.Shares.{start, number, stop, size, row-low, link-row, edges-row}
 
 -- an edge whose target is a number that the sweep gave to a vertex, and which has that vertex's key
 pub record Leads (C : Catalogue) (e : ℕ) : Type 0 where
@@ -44,23 +44,17 @@ module _ (asks : Asks) (C : Catalogue) (s : sound asks C ≡ true) where
       }
 
   module _ (front : List ℕ) (x : ℕ) (rest : List ℕ) (split : live-vertices C ≡ front ++ x ∷ rest) where
-    abbrev from : ℕ
-    from = start C front
-
-    abbrev size : ℕ
-    size = length (live-edges-of C x)
-
-    added-row : (e : ℕ) → from ≤ e → e < from + size → is-added (swept C) e ≡ true
+    added-row : (e : ℕ) → start C front ≤ e → e < stop C front x → is-added (swept C) e ≡ true
     added-row e a b = ap (λ l. at-edge l false (λ next tag. eqb tag added)) (link-row asks C s front x rest split e a b)
 
-    pub leads-row : (e : ℕ) → from ≤ e → e < from + size → Leads C e
+    pub leads-row : (e : ℕ) → start C front ≤ e → e < stop C front x → Leads C e
     leads-row e a b = leads e (omega arith) (omega (arith, row-low asks C s front x rest split))
 
     -- ADDED, and to a vertex without a mark
-    pub is-live-row : (e : ℕ) → from ≤ e → e < from + size → is-live (swept C) e ≡ true
+    pub is-live-row : (e : ℕ) → start C front ≤ e → e < stop C front x → is-live (swept C) e ≡ true
     is-live-row e a b =
         let d : Leads C e = leads-row e a b in
         ap₂ (λ t u. pick t u false) (added-row e a b) (ap (λ l. at-target l false (unmarked (swept C))) (d .read) ∙ unmarked-at asks C s (d .to) (d .low) (d .high))
 
-    pub list-live : All (λ e. is-live (swept C) e ≡ true) (edges-of (swept C) (2 + length front))
-    list-live = rw (edges-row asks C s front x rest split) (all-row (λ e. is-live (swept C) e ≡ true) from size is-live-row)
+    pub list-live : All (λ e. is-live (swept C) e ≡ true) (edges-of (swept C) (number front))
+    list-live = rw (edges-row asks C s front x rest split) (all-row (λ e. is-live (swept C) e ≡ true) (start C front) (size C x) is-live-row)

@@ -1,6 +1,6 @@
 -- The words of a header, read one after the other: each number joins the counts before it, and the one behind all counts ends the line. Assumes nothing.
 use Prim.Native.Nat.{ℕ, _+_, _-_, _≤_, _<_}
-use mathlib.Core.Bool.{true, false}
+use mathlib.Core.Bool.{false}
 use mathlib.Core.List.{List, [], _∷_, _++_, append-assoc}
 use mathlib.Core.Option.{Option, none, some}
 use mathlib.Core.Path.{_≡_, refl, sym, ap, _∙_}
@@ -18,7 +18,7 @@ use Rattle.script.specs.declared.numbers.Number.{Number}
 use Rattle.script.specs.declared.numbers.Number.the-variants as number
 use Rattle.script.proofs.Tools.{none-if, all-pair, all-end}
 use Rattle.script.proofs.LineLaws.{words-none, not-found, item-last, item-more}
-use Rattle.script.proofs.ItemLaws.{number-more-found, number-last-found, number-not-found}
+use Rattle.script.proofs.ItemLaws.{number-stands}
 use Rattle.script.proofs.HeaderLaws.{sum-append, sum-pair, sum-none, parts, header-made, header-late, header-off, header-sum, header-large}
 
 -- ---- one number of several
@@ -69,22 +69,22 @@ module _ (workers : ℕ) (cs : List ℕ) where
 
   module _ (text : List ℕ) (at : ℕ) (r : Number) (e : r ≡ number-at text at) where
     number-bad : r ≡ number.Bad → words-at (counting workers cs) text at ≡ none
-    number-bad q = not-found natural number-fits text at (counting workers cs) (number-not-found text at r e q) counting-none (λ w n ws s t. counting-large w n s ws t)
+    number-bad q = not-found natural number-fits text at (counting workers cs) (number-stands text at r e none q) counting-none (λ w n ws s t. counting-large w n s ws t)
 
     module _ (n next : ℕ) where
       number-last : r ≡ number.Last n next → words-at (counting workers cs) text at ≡ given (header-of (workers ∷ (cs ++ (n ∷ [])))) none (λ h. some (h, next))
       number-last q =
-          item-last (counting workers cs) text at natural number-fits (record { value = n; last = true; next = next }) (number-last-found text at r e n next q) refl
+          item-last (counting workers cs) text at natural number-fits n next (number-stands text at r e _ q)
           (header-of (workers ∷ (cs ++ (n ∷ [])))) (λ w s t. counting-last w n s)
 
       number-more : r ≡ number.More n next → words-at (counting workers cs) text at ≡ words-at (counting workers (cs ++ (n ∷ []))) text next
       number-more q =
-          item-more (counting workers cs) text at natural number-fits (record { value = n; last = false; next = next }) (number-more-found text at r e n next q) refl
+          item-more (counting workers cs) text at natural number-fits n next (number-stands text at r e _ q)
           (counting workers (cs ++ (n ∷ []))) (λ w s t. counting-pair w n s)
 
       number-never : r ≡ number.More n next → ((ns : List ℕ) → header-of (workers ∷ (cs ++ (n ∷ ns))) ≡ none) → words-at (counting workers cs) text at ≡ none
       number-never q never =
-          item-more (counting workers cs) text at natural number-fits (record { value = n; last = false; next = next }) (number-more-found text at r e n next q) refl
+          item-more (counting workers cs) text at natural number-fits n next (number-stands text at r e _ q)
           (λ ws. none) (λ w s t ws. counting-never w n s ws never)
           ∙ words-none (λ ws. none) text next (λ w ws. refl)
 

@@ -1,6 +1,6 @@
 -- The first number of a header is the number of workers, and the words behind it are the counts and the length of the schedule. Assumes nothing.
 use Prim.Native.Nat.{ℕ, _≤_, _<_}
-use mathlib.Core.Bool.{true, false}
+use mathlib.Core.Bool.{false}
 use mathlib.Core.List.{List, [], _∷_}
 use mathlib.Core.Option.{Option, none, some}
 use mathlib.Core.Path.{_≡_, refl, sym, ap, _∙_}
@@ -16,7 +16,7 @@ use Rattle.script.specs.declared.numbers.Number.{Number}
 use Rattle.script.specs.declared.numbers.Number.the-variants as number
 use Rattle.script.proofs.Tools.{all-pair, all-end}
 use Rattle.script.proofs.LineLaws.{words-none, not-found, item-last, item-more, line-alike}
-use Rattle.script.proofs.ItemLaws.{number-more-found, number-last-found, number-not-found}
+use Rattle.script.proofs.ItemLaws.{number-stands}
 use Rattle.script.proofs.CountLaws.{outside, counts-cases}
 
 abbrev heading : List (List ℕ) → Option Header
@@ -54,14 +54,14 @@ module _ (text : List ℕ) where
   module _ (r : Number) (e : r ≡ number-at text 0) where
     pub header-bad : r ≡ number.Bad → none ≡ header-line text
     header-bad q =
-        rw (by-words, not-found natural number-fits text 0 heading (number-not-found text 0 r e q) heading-none (λ w n ws s t. heading-large w n s t ws))
+        rw (by-words, not-found natural number-fits text 0 heading (number-stands text 0 r e none q) heading-none (λ w n ws s t. heading-large w n s t ws))
 
     module _ (workers next : ℕ) where
       pub header-last : r ≡ number.Last workers next → none ≡ header-line text
       header-last q =
           rw (
             by-words,
-            item-last heading text 0 natural number-fits (record { value = workers; last = true; next = next }) (number-last-found text 0 r e workers next q) refl
+            item-last heading text 0 natural number-fits workers next (number-stands text 0 r e _ q)
                 none (λ w s t. heading-last w workers s),
           )
 
@@ -69,7 +69,7 @@ module _ (text : List ℕ) where
         more : header-line text ≡ numbered (words-at (counting workers []) text next)
         more =
             by-words ∙ ap numbered
-            (item-more heading text 0 natural number-fits (record { value = workers; last = false; next = next }) (number-more-found text 0 r e workers next q) refl
+            (item-more heading text 0 natural number-fits workers next (number-stands text 0 r e _ q)
             (counting workers []) (λ w s t. heading-pair w workers s))
 
         no-workers : (1 ≤ workers → workers ≤ 8 → ⊥) → none ≡ header-line text

@@ -15,7 +15,7 @@ use Rattle.script.specs.declared.keys.Key.the-variants as key
 use Rattle.script.specs.declared.requests.Line.the-variants.{Bad}
 use Rattle.script.proofs.Tools.{none-or, every-pair, all-pair}
 use Rattle.script.proofs.LineLaws.{not-found, item-last, item-more}
-use Rattle.script.proofs.ItemLaws.{key-more-found, key-last-found, key-not-found}
+use Rattle.script.proofs.ItemLaws.{key-stands}
 
 -- ---- one key of several
 
@@ -55,15 +55,15 @@ module _ (make : List ℤ → Option Request) where
 
   module _ (text : List ℕ) (at : ℕ) (r : Key) (e : r ≡ key-at text at) where
     pub key-bad : r ≡ key.Bad → words-at (keyed make) text at ≡ none
-    key-bad q = not-found signed key-fits text at (keyed make) (key-not-found text at r e q) keyed-none keyed-unfit
+    key-bad q = not-found signed key-fits text at (keyed make) (key-stands text at r e none q) keyed-none keyed-unfit
 
     module _ (k : ℤ) (next : ℕ) where
       pub key-more : r ≡ key.More k next → words-at (keyed make) text at ≡ words-at (keyed (λ keys. make (k ∷ keys))) text next
       key-more q =
-          item-more (keyed make) text at signed key-fits (record { value = k; last = false; next = next }) (key-more-found text at r e k next q) refl
+          item-more (keyed make) text at signed key-fits k next (key-stands text at r e _ q)
           (keyed (λ keys. make (k ∷ keys))) (λ w s t ws. keyed-pair w k ws s t)
 
       pub key-last : r ≡ key.Last k next → words-at (keyed make) text at ≡ given (make (k ∷ [])) none (λ a. some (a, next))
       key-last q =
-          item-last (keyed make) text at signed key-fits (record { value = k; last = true; next = next }) (key-last-found text at r e k next q) refl
+          item-last (keyed make) text at signed key-fits k next (key-stands text at r e _ q)
           (make (k ∷ [])) (λ w s t. keyed-pair w k [] s t ∙ keyed-end (λ keys. make (k ∷ keys)))

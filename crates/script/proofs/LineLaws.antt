@@ -95,15 +95,15 @@ words-none kind text at never = go (next-word (drop at text)) refl
 -- ---- a word that is read, and one that is not
 
 -- where an item was read
-pub record Found {X : Type 0} (reading : List ℕ → Option X) (fits : X → Bool) (text : List ℕ) (at : ℕ) (i : Item X) : Type 0 where
+record Found {X : Type 0} (reading : List ℕ → Option X) (fits : X → Bool) (text : List ℕ) (at : ℕ) (i : Item X) : Type 0 where
   pub bytes : List ℕ
   pub word : next-word (drop at text) ≡ some (record { bytes = bytes; last = i .last })
   pub reads : reading bytes ≡ some (i .value)
   pub fit : fits (i .value) ≡ true
-  pub follows : i .next ≡ behind at bytes
+  pub follows : behind at bytes ≡ i .next
 
 module _ {X : Type 0} (reading : List ℕ → Option X) (fits : X → Bool) (text : List ℕ) (at : ℕ) where
-  pub found : (i : Item X) → item-at reading fits text at ≡ some i → Found reading fits text at i
+  found : (i : Item X) → item-at reading fits text at ≡ some i → Found reading fits text at i
   found i e = word (next-word (drop at text)) refl e
     where
       fitting : (w : Word) (x : X) → next-word (drop at text) ≡ some w → reading (w .bytes) ≡ some x → (t : Bool) → fits x ≡ t
@@ -115,7 +115,7 @@ module _ {X : Type 0} (reading : List ℕ → Option X) (fits : X → Bool) (tex
             word = q ∙ ap (λ t. some (record { bytes = w .bytes; last = t })) (ap (λ j. j .last) f);
             reads = r ∙ ap (λ j. some (j .value)) f;
             fit = ap (λ j. fits (j .value)) (sym f) ∙ t;
-            follows = sym (ap (λ j. j .next) f);
+            follows = ap (λ j. j .next) f;
           }
       fitting w x q r false t e = clash (cc)
 
@@ -148,16 +148,20 @@ module _ {X : Type 0} (reading : List ℕ → Option X) (fits : X → Bool) (tex
       word none q e = first-word kind at (drop at text) ∙ rw q
       word (some w) q e = value w q (reading (w .bytes)) refl e
 
-module _ {A : Type 0} (kind : List (List ℕ) → Option A) (text : List ℕ) (at : ℕ) {X : Type 0} (reading : List ℕ → Option X) (fits : X → Bool) (i : Item X) (f : Found reading fits text at i) where
+module _ {A : Type 0} (kind : List (List ℕ) → Option A) (text : List ℕ) (at : ℕ) {X : Type 0} (reading : List ℕ → Option X) (fits : X → Bool) (x : X) (next : ℕ) where
   -- the item is its line's last
-  pub item-last : i .last ≡ true → (o : Option A) → ((w : List ℕ) → reading w ≡ some (i .value) → fits (i .value) ≡ true → kind (w ∷ []) ≡ o)
-      → words-at kind text at ≡ given o none (λ a. some (a, i .next))
-  item-last l o same = first-word kind at (drop at text) ∙ rw (f .word, l, same (f .bytes) (f .reads) (f .fit), f .follows)
+  pub item-last : item-at reading fits text at ≡ some (record { value = x; last = true; next = next })
+      → (o : Option A) → ((w : List ℕ) → reading w ≡ some x → fits x ≡ true → kind (w ∷ []) ≡ o) → words-at kind text at ≡ given o none (λ a. some (a, next))
+  item-last e o same =
+      let f = found reading fits text at _ e in
+      first-word kind at (drop at text) ∙ rw (f .word, same (f .bytes) (f .reads) (f .fit), f .follows)
 
   -- more follows
-  pub item-more : i .last ≡ false → (kind′ : List (List ℕ) → Option A) → ((w : List ℕ) → reading w ≡ some (i .value) → fits (i .value) ≡ true → (ws : List (List ℕ)) → kind (w ∷ ws) ≡ kind′ ws)
-      → words-at kind text at ≡ words-at kind′ text (i .next)
-  item-more l kind′ same =
+  pub item-more : item-at reading fits text at ≡ some (record { value = x; last = false; next = next })
+      → (kind′ : List (List ℕ) → Option A) → ((w : List ℕ) → reading w ≡ some x → fits x ≡ true → (ws : List (List ℕ)) → kind (w ∷ ws) ≡ kind′ ws)
+      → words-at kind text at ≡ words-at kind′ text next
+  item-more e kind′ same =
+      let f = found reading fits text at _ e in
       first-word kind at (drop at text)
-      ∙ rw (f .word, l, f .follows, drop-drop (suc (length (f .bytes))) at text)
-      (line-alike (λ l. kind (f .bytes ∷ split l)) (λ l. kind′ (split l)) (λ l. same (f .bytes) (f .reads) (f .fit) (split l)) (behind at (f .bytes)) (next-line (drop (behind at (f .bytes)) text)))
+      ∙ rw (f .word, drop-drop (suc (length (f .bytes))) at text, f .follows)
+      (line-alike (λ l. kind (f .bytes ∷ split l)) (λ l. kind′ (split l)) (λ l. same (f .bytes) (f .reads) (f .fit) (split l)) next (next-line (drop next text)))

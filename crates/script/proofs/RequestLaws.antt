@@ -25,7 +25,7 @@ use Rattle.script.specs.declared.requests.Line.{Line}
 use Rattle.script.specs.declared.requests.Line.the-variants.{Bad, Read}
 use Rattle.script.proofs.Tools.{none-or}
 use Rattle.script.proofs.LineLaws.{words-none, not-found, item-last, item-more, line-alike}
-use Rattle.script.proofs.ItemLaws.{number-more-found, number-last-found, number-not-found}
+use Rattle.script.proofs.ItemLaws.{number-stands}
 use Rattle.script.proofs.KeyedLaws.{keyed-never, key-bad, key-more, key-last}
 
 -- ---- the second key
@@ -115,14 +115,14 @@ module _ (text : List ℕ) (at : ℕ) where
   module _ (r : Number) (e : r ≡ number-at text at) where
     pub request-bad : r ≡ number.Bad → Bad ≡ request-at text at
     request-bad q =
-        rw (by-words, not-found natural number-fits text at request-of-words (number-not-found text at r e q) (λ w ws n. rw n) (λ w n ws s t. coded-large w n s t ws))
+        rw (by-words, not-found natural number-fits text at request-of-words (number-stands text at r e none q) (λ w ws n. rw n) (λ w n ws s t. coded-large w n s t ws))
 
     module _ (code next : ℕ) where
       pub request-last : r ≡ number.Last code next → Bad ≡ request-at text at
       request-last q =
           rw (
             by-words,
-            item-last request-of-words text at natural number-fits (record { value = code; last = true; next = next }) (number-last-found text at r e code next q) refl
+            item-last request-of-words text at natural number-fits code next (number-stands text at r e _ q)
                 none (λ w s t. coded-end w code s),
           )
 
@@ -131,7 +131,7 @@ module _ (text : List ℕ) (at : ℕ) where
             → as-line (words-at kind text next) ≡ request-at text at
         more kind same =
             ap as-line (sym
-            (item-more request-of-words text at natural number-fits (record { value = code; last = false; next = next }) (number-more-found text at r e code next q) refl
+            (item-more request-of-words text at natural number-fits code next (number-stands text at r e _ q)
             kind (λ w s t. same w s)))
             ∙ sym by-words
 

@@ -20,7 +20,7 @@ use Rattle.script.specs.declared.turns.After.the-variants.{Bad}
 use Rattle.laws.proofs.Cases.{lt-or}
 use Rattle.script.proofs.Tools.{same-or, none-or, every-none, every-pair, all-end, all-pair}
 use Rattle.script.proofs.LineLaws.{words-none, not-found, item-last, item-more}
-use Rattle.script.proofs.ItemLaws.{number-more-found, number-last-found, number-not-found}
+use Rattle.script.proofs.ItemLaws.{number-stands}
 
 -- ---- one number of several
 
@@ -109,26 +109,26 @@ by-turns workers text left at few = by (number-at text at) refl
 
     by : (r : Number) → number-at text at ≡ r → words-at (scheduled workers (suc left)) text at ≡ by-number workers text left r
     by number.Bad q =
-        not-found natural number-fits text at (scheduled workers (suc left)) (number-not-found text at (number-at text at) refl q)
+        not-found natural number-fits text at (scheduled workers (suc left)) (number-stands text at (number-at text at) refl none q)
         (scheduled-none workers (suc left)) (λ w n ws s t. scheduled-above workers (suc left) w n s (omega (arith, leb-false n most-number t)) ws)
     by (number.Last w next) q =
         elim (lt-or w workers) [
           | inl h ↦ rw (lt-ltb w workers h)
-              (item-last (scheduled workers (suc left)) text at natural number-fits (record { value = w; last = true; next = next }) (number-last-found text at (number-at text at) refl w next q) refl
+              (item-last (scheduled workers (suc left)) text at natural number-fits w next (number-stands text at (number-at text at) refl _ q)
               (with-turn w (pick (eqb 0 left) (some []) none)) (λ bs s t. scheduled-pair workers left bs w s h [] ∙ ap (with-turn w) (scheduled-end workers left))
               ∙ last-of w next (eqb 0 left))
           | inr h ↦ rw (le-ltb w workers h)
-              (item-last (scheduled workers (suc left)) text at natural number-fits (record { value = w; last = true; next = next }) (number-last-found text at (number-at text at) refl w next q) refl
+              (item-last (scheduled workers (suc left)) text at natural number-fits w next (number-stands text at (number-at text at) refl _ q)
               none (λ bs s t. scheduled-above workers (suc left) bs w s h []))
         ]
     by (number.More w next) q =
         elim (lt-or w workers) [
           | inl h ↦ rw (lt-ltb w workers h)
-              (item-more (scheduled workers (suc left)) text at natural number-fits (record { value = w; last = false; next = next }) (number-more-found text at (number-at text at) refl w next q) refl
+              (item-more (scheduled workers (suc left)) text at natural number-fits w next (number-stands text at (number-at text at) refl _ q)
               (λ ws. with-turn w (scheduled workers left ws)) (λ bs s t. scheduled-pair workers left bs w s h)
               ∙ line-with w (λ l. scheduled workers left (split l)) next (next-line (drop next text)))
           | inr h ↦ rw (le-ltb w workers h)
-              (item-more (scheduled workers (suc left)) text at natural number-fits (record { value = w; last = false; next = next }) (number-more-found text at (number-at text at) refl w next q) refl
+              (item-more (scheduled workers (suc left)) text at natural number-fits w next (number-stands text at (number-at text at) refl _ q)
               (λ ws. none) (λ bs s t. scheduled-above workers (suc left) bs w s h)
               ∙ words-none {A = List ℕ} (λ ws. none) text next (λ bs ws. refl))
         ]

@@ -63,19 +63,15 @@ module _ (asks : Asks) (C : Catalogue) (n left x : ℕ) where
   abbrev rest-at : ℕ → List ℕ
   rest-at y = walk (next-vertex C) tail (left - 1) y
 
-  pub lists-spent : (r : Bool) → r ≡ leb n 2047 → left ≡ 0 → r ≡ lists-from asks C n left x
+  lists-over : (r : Bool) → r ≡ leb n 2047 → walk (next-vertex C) tail left x ≡ [] → r ≡ lists-from asks C n left x
   unfolding lists-from
-  lists-spent r e q =
-      e
-      ∙ sum-none (unmarked C) (edges-sound asks C) (live-edges-of C) n
-      ∙ sym (ap sum-of (walk-spent (next-vertex C) tail left x q))
+  lists-over r e over = e ∙ sum-none (unmarked C) (edges-sound asks C) (live-edges-of C) n ∙ sym (ap sum-of over)
+
+  pub lists-spent : (r : Bool) → r ≡ leb n 2047 → left ≡ 0 → r ≡ lists-from asks C n left x
+  lists-spent r e q = lists-over r e (walk-spent (next-vertex C) tail left x q)
 
   pub lists-end : (r : Bool) → r ≡ leb n 2047 → x ≡ 1 → r ≡ lists-from asks C n left x
-  unfolding lists-from
-  lists-end r e q =
-      e
-      ∙ sum-none (unmarked C) (edges-sound asks C) (live-edges-of C) n
-      ∙ sym (ap sum-of (walk-end (next-vertex C) tail left x q))
+  lists-end r e q = lists-over r e (walk-end (next-vertex C) tail left x q)
 
   module _ (on : left ≡ 0 → ⊥) (short : x ≡ 1 → ⊥) (u : Bool) (e : u ≡ unmarked C x) (y : ℕ) (f : y ≡ next-vertex C x) where
     goes-on : sum-of (x ∷ rest-at y) ≡ sum-of (walk (next-vertex C) tail left x)

@@ -54,7 +54,8 @@ use Rattle.calls.proofs.record.step_record as step
 use Rattle.calls.proofs.record.step_record.Symbol as step-def
 use Rattle.calls.proofs.record.step_record.Symbol.{name as #calls·step-record}
 use Rattle.calls.proofs.record.step_record.Met as step-thm
-use Rattle.inplace.proofs.Parts.{Keys, Words, worker-val, worker-vals, answer-val, stepped-val, own-keys, own-words, gave, Left, Long}
+use Rattle.memory.proofs.Slices.{Keys, Words, own-keys, own-words, Long}
+use Rattle.inplace.proofs.Parts.{worker-val, worker-vals, answer-val, stepped-val, gave, Left}
 use Rattle.inplace.proofs.Saying.{says-all, all-three}
 use Rattle.inplace.proofs.step_in.Key.{name as #inplace·step-in}
 use Rattle.inplace.proofs.step_in as step-in

@@ -54,7 +54,8 @@ use Rattle.catalogue.proofs.answers.Answer as U
 use Rattle.catalogue.proofs.answers.Answer.Laws as U′
 use Rattle.catalogue.proofs.answers.Stepped as S
 use Rattle.catalogue.proofs.answers.Stepped.Laws as S′
-use Rattle.inplace.proofs.Parts.{Keys, Words, worker-val, worker-vals, stepped-val, own-keys, own-words, gave, Left, Long}
+use Rattle.memory.proofs.Slices.{Keys, Words, own-keys, own-words, Long}
+use Rattle.inplace.proofs.Parts.{worker-val, worker-vals, stepped-val, gave, Left}
 use Rattle.inplace.proofs.Saying.{says-all, both}
 use Rattle.inplace.proofs.step_in as step-in
 use Rattle.inplace.proofs.step_in.Symbol as step-in-def

@@ -1,12 +1,12 @@
 -- A line printed among others: what holds of every line holds of it, and every line is printed. Assumes nothing.
-use mathlib.Core.Bool.{Bool, true, false}
+use mathlib.Core.Bool.{true}
 use mathlib.Core.List.{List, [], _∷_}
 use mathlib.Core.Path.{_≡_, refl, ap₂}
 use lib.IntN.{ℤ}
-use Rattle.catalogue.specs.Tests.{pick, eqZ}
-use Rattle.laws.proofs.Picks.{both-true, pick-both, clash}
+use Rattle.catalogue.specs.Tests.{eqZ}
+use Rattle.laws.proofs.Picks.{both-true, clash}
 use Rattle.laws.proofs.Rules.{eqZ-refl, eqZ-eq}
-use Rattle.laws.proofs.Members.{All, all-each}
+use Rattle.laws.proofs.Members.{All, all-within, of-within}
 use Rattle.promises.specs.Graphs.{same-line, printed}
 
 same-is : (k l : List ℤ) → same-line k l ≡ true → k ≡ l
@@ -25,17 +25,8 @@ same-self (l ∷ ls) = rw (eqZ-refl l, same-self ls)
 
 pub of-printed : (P : List ℤ → Type 0) (ls : List (List ℤ)) → All P ls → (l : List ℤ) → printed l ls ≡ true → P l
 unfolding printed
-of-printed P [] h l e = clash (cc)
-of-printed P (m ∷ ls) h l e = by (same-line l m) refl e (of-printed P ls (h .1) l)
-  where
-    by : (t : Bool) → same-line l m ≡ t → pick t true (printed l ls) ≡ true → (printed l ls ≡ true → P l) → P l
-    by true q e rest = rw (same-is l m q) (h .0)
-    by false q e rest = rest e
+of-printed = of-within same-line printed (λ l. refl) (λ l m ls. refl) same-is
 
 pub all-printed : (ls : List (List ℤ)) → All (λ l. printed l ls ≡ true) ls
 unfolding printed
-all-printed [] = tt
-all-printed (m ∷ ls) = (
-  rw (same-self m) refl,
-  all-each (λ l. printed l ls ≡ true) (λ l. printed l (m ∷ ls) ≡ true) (λ l e. pick-both (λ t. t ≡ true) (same-line l m) _ _ (λ q. refl) (λ q. e)) ls (all-printed ls),
-)
+all-printed = all-within same-line printed (λ l. refl) (λ l m ls. refl) same-self

@@ -13,7 +13,7 @@ use lib.Signed.{_<ℤ_, ltZ-yes}
 use Rattle.catalogue.specs.Tests.{pick, every}
 use Rattle.catalogue.specs.Catalogue.{Catalogue, first-link, edge-key, edge-key-in, edge-link, edge-target, at-edge, at-target}
 use Rattle.catalogue.specs.Numbers.{least, greatest}
-use Rattle.catalogue.specs.Live.{first-edge, next-edge, edges-of, live-vertices, live-edges-of}
+use Rattle.catalogue.specs.Live.{first-edge, next-edge, edges-of, live-vertices}
 use Rattle.catalogue.specs.Soundness.{Asks, tag-fits, target-sound, edge-sound, edges-sound, sound}
 use Rattle.catalogue.specs.Sweep.{swept}
 use Rattle.catalogue.specs.declared.links.EdgeLink.{EdgeLink}
@@ -22,7 +22,7 @@ use Rattle.laws.proofs.Members.{All, every-all}
 use Rattle.resting.specs.Rows.{row}
 use Rattle.resting.specs.Sound.{edge-rises, whole, lists-sound}
 use Rattle.resting.specs.Shape.{live-row}
-use Rattle.resting.specs.Shares.{start, shares-length, row-low, link-row, first-link-row, edges-row}
+use Rattle.resting.specs.Shares.{start, number, stop, size, shares-length, row-low, link-row, first-link-row, edges-row}
 use Rattle.resting.specs.Kept.{edge-source, edge-aim}
 use Rattle.row.specs.Base.{lt-or}
 use Rattle.row.specs.Lists.Links.{Sorted}
@@ -69,44 +69,34 @@ module _ (asks : Asks) (C : Catalogue) (s : sound asks C ≡ true) (again : soun
   -- ---- the list of a live vertex
 
   module _ (front : List ℕ) (x : ℕ) (rest : List ℕ) (split : live-vertices C ≡ front ++ x ∷ rest) where
-    abbrev number : ℕ
-    number = 2 + length front
-
-    abbrev from : ℕ
-    from = start C front
-
-    abbrev size : ℕ
-    size = length (live-edges-of C x)
-
-    abbrev last : ℕ
-    last = from + size
-
-    in-range : number < 2 + count C
+    in-range : number front < 2 + count C
     in-range = omega (arith, ap length split, length-append front (x ∷ rest))
 
-    few : last ≤ 1 + edge-count C
+    few : stop C front x ≤ 1 + edge-count C
     few = omega (arith, row-low asks C s front x rest split, shares-length C (live-vertices C))
 
-    first-there : lists .first number ≡ pick (ltb from last) from 0
-    first-there = first-is C number (omega arith) in-range ∙ ap to (first-link-row asks C s front x rest split)
+    first-there : lists .first (number front) ≡ pick (ltb (start C front) (stop C front x)) (start C front) 0
+    first-there = first-is C (number front) (omega arith) in-range ∙ ap to (first-link-row asks C s front x rest split)
 
-    above-there : least <ℤ key (pick (ltb from last) from 0)
-    above-there = pick-both (λ e. least <ℤ key e) (ltb from last) from 0 (λ t. above from (omega arith) (omega (arith, ltb-true from last t, few))) (λ t. tail-above)
+    above-there : least <ℤ key (pick (ltb (start C front) (stop C front x)) (start C front) 0)
+    above-there =
+        pick-both (λ e. least <ℤ key e) (ltb (start C front) (stop C front x)) (start C front) 0
+        (λ t. above (start C front) (omega arith) (omega (arith, ltb-true (start C front) (stop C front x) t, few))) (λ t. tail-above)
 
     abbrev Passes : ℕ → Type 0
     Passes e = edge-sound asks (swept C) e ≡ true
 
-    pass : All Passes (row from size)
+    pass : All Passes (row (start C front) (size C x))
     pass =
         let all = rw (live-row asks C s) at (lists-sound asks (swept C) again) in
-        let l = all-in-row (λ u. edges-sound asks (swept C) u ≡ true) 2 (count C) all number (omega arith) in-range in
-        let t = whole (every (edge-sound asks (swept C)) (edges-of (swept C) number)) (first-link (swept C) number) l in
-        rw (edges-row asks C s front x rest split) at (every-all (edge-sound asks (swept C)) (edges-of (swept C) number) t)
+        let l = all-in-row (λ u. edges-sound asks (swept C) u ≡ true) 2 (count C) all (number front) (omega arith) in-range in
+        let t = whole (every (edge-sound asks (swept C)) (edges-of (swept C) (number front))) (first-link (swept C) (number front)) l in
+        rw (edges-row asks C s front x rest split) at (every-all (edge-sound asks (swept C)) (edges-of (swept C) (number front)) t)
 
     rises : (e : ℕ) → Passes e → key e <ℤ key (next-edge (swept C) e)
     rises e h = edge-rises (key e) key (tag-fits asks) (at-target (edge-target (swept C) e) false (target-sound (swept C) e)) (edge-link (swept C) e) h .0
 
-    edge-row : Row (eview lists number) head at 0 from last
+    edge-row : Row (eview lists (number front)) head at 0 (start C front) (stop C front x)
     edge-row =
         record {
           ends = inl refl;
@@ -115,18 +105,18 @@ module _ (asks : Asks) (C : Catalogue) (s : sound asks C ≡ true) (again : soun
             inside = inr (record { low = omega arith; high = omega (arith, few); own = owner-is C front x rest split e a b });
             goes = ap (λ l. at (to l)) (link-row asks C s front x rest split e a b);
             apart = λ q. let z : e ≡ 0 = cc in omega arith;
-            rises = rises e (all-in-row Passes from size pass e a b);
+            rises = rises e (all-in-row Passes (start C front) (size C x) pass e a b);
           };
           covers = cover;
         }
       where
-        cover : (p : Prev) → Mine lists number p → Place (eview lists number) head at 0 from last p
+        cover : (p : Prev) → Mine lists (number front) p → Place (eview lists (number front)) head at 0 (start C front) (stop C front x) p
         cover head m = first refl
         cover (at e) (inl z) = final (ap at z)
         cover (at e) (inr o) = let w = owned-by C front x rest split e (o .low) (omega (arith, o .high)) (o .own) in inner e (w .0) (w .1) refl
 
-    list-sorted : Sorted head (at 0) (eview lists number)
-    list-sorted = row-sorted (eview lists number) head at 0 from last edge-row
+    list-sorted : Sorted head (at 0) (eview lists (number front))
+    list-sorted = row-sorted (eview lists (number front)) head at 0 (start C front) (stop C front x) edge-row
 
   -- ---- what is no vertex has no edges
 

@@ -9,7 +9,7 @@ use lib.ListN.{length, length-append}
 use Rattle.catalogue.specs.Tests.{pick}
 use Rattle.catalogue.specs.Catalogue.{Catalogue}
 use Rattle.catalogue.specs.Live.{live-vertices, live-edges-of, gather}
-use Rattle.resting.specs.Shares.{start}
+use Rattle.resting.specs.Shares.{start, number, stop}
 use Rattle.resting.specs.Standing.{stands-in}
 
 -- of lists one after the other, whose members are numbered from `from` on, the number of the list with the member e; the first list has `number`
@@ -42,13 +42,13 @@ module _ (C : Catalogue) where
   owner = owner-from (live-edges-of C) 2 1 (live-vertices C)
 
   pub owner-is : (front : List ℕ) (x : ℕ) (rest : List ℕ) → live-vertices C ≡ front ++ x ∷ rest → (e : ℕ)
-      → start C front ≤ e → e < start C front + length (live-edges-of C x) → owner e ≡ 2 + length front
+      → start C front ≤ e → e < stop C front x → owner e ≡ number front
   owner-is front x rest split e a b = rw split (owner-there (live-edges-of C) front x rest 2 1 e (omega arith) (omega arith))
 
   -- and back: it stands in its owner's list
   pub owned-by : (front : List ℕ) (x : ℕ) (rest : List ℕ) → live-vertices C ≡ front ++ x ∷ rest → (e : ℕ) → 1 ≤ e
-      → e ≤ length (gather (live-edges-of C) (live-vertices C)) → owner e ≡ 2 + length front
-      → (start C front ≤ e) × (e < start C front + length (live-edges-of C x))
+      → e ≤ length (gather (live-edges-of C) (live-vertices C)) → owner e ≡ number front
+      → (start C front ≤ e) × (e < stop C front x)
   owned-by front x rest split e low high own =
       let s = stands-in C e low high in
       let n = owner-is (s .front) (s .source) (s .rest) (s .split) e (s .low) (s .high) in

@@ -63,7 +63,8 @@ use Rattle.host.proofs.one.step_one.Met as step-thm
 use Rattle.host.proofs.Cells.{lies-in, record-vals, opens-record, shuts-record}
 use Rattle.host.proofs.Slots.{Slot, slot-of, to-slot, goes-slot}
 use Rattle.host.proofs.Moves.{same-kept}
-use Rattle.host.proofs.Parts.{Keys, Words, own-keys, own-words, Long, kept-vals, slot-below, far, at-record, is-kept, told-fits}
+use Rattle.memory.proofs.Slices.{Keys, Words, own-keys, own-words, Long}
+use Rattle.host.proofs.Parts.{kept-vals, slot-below, far, at-record, is-kept, told-fits}
 use Rattle.host.proofs.step.pallaymi_step.Key.{name as #host·pallaymi-step}
 use Rattle.host.proofs.step.pallaymi_step as f
 use Rattle.host.proofs.step.pallaymi_step.Statement as stated

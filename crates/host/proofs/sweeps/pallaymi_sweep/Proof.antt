@@ -47,7 +47,8 @@ use Rattle.host.proofs.sweeps.sweep_kept as kept
 use Rattle.host.proofs.sweeps.sweep_kept.Symbol as kept-def
 use Rattle.host.proofs.sweeps.sweep_kept.Symbol.{name as #host·sweep-kept}
 use Rattle.host.proofs.sweeps.sweep_kept.Met as kept-thm
-use Rattle.host.proofs.Parts.{Keys, Words, own-keys, own-words, Long, kept-vals}
+use Rattle.memory.proofs.Slices.{Keys, Words, own-keys, own-words, Long}
+use Rattle.host.proofs.Parts.{kept-vals}
 use Rattle.host.proofs.sweeps.pallaymi_sweep.Key.{name as #host·pallaymi-sweep}
 use Rattle.host.proofs.sweeps.pallaymi_sweep as f
 use Rattle.host.proofs.sweeps.pallaymi_sweep.Statement as stated

@@ -65,7 +65,8 @@ use Rattle.host.proofs.one.take_up_one.Met as take-thm
 use Rattle.host.proofs.Cells.{lies-in, record-vals, opens-record, shuts-record}
 use Rattle.host.proofs.Slots.{Slot, slot-of, to-slot, goes-slot}
 use Rattle.host.proofs.Moves.{same-kept}
-use Rattle.host.proofs.Parts.{Keys, Words, kept-vals, slot-below, far, at-record, is-kept, told-fits}
+use Rattle.memory.proofs.Slices.{Keys, Words}
+use Rattle.host.proofs.Parts.{kept-vals, slot-below, far, at-record, is-kept, told-fits}
 use Rattle.host.proofs.take_up.pallaymi_take_up.Key.{name as #host·pallaymi-take-up}
 use Rattle.host.proofs.take_up.pallaymi_take_up as f
 use Rattle.host.proofs.take_up.pallaymi_take_up.Statement as stated
