@@ -1,2 +1,3 @@
--- Laws of a request by a lone worker.
+-- Laws of a request by a lone worker, and of the counts over many.
 pub mod AskLaws
+pub mod TallyLaws

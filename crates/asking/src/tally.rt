@@ -1,4 +1,6 @@
 // Sums over many requests. The sums stay far below the ends of their types; a wrapping sum asks no proof of it.
+ghost use mathlib.Core.Path.{_≡_};
+ghost use Rattle.asking.specs.Tallies.{none, counted};
 use crate::perform::Performed;
 use std::num::wrapping_add_u32;
 
@@ -10,7 +12,9 @@ pub struct Tally {
     pub steps: u32,
 }
 
-pub fn none() -> Tally {
+pub fn none() -> Tally
+    ensures { λ r. ⌜ r ≡ none ⌝ }
+{
     Tally {
         done: 0,
         no_room: 0,
@@ -19,7 +23,9 @@ pub fn none() -> Tally {
     }
 }
 
-pub fn counted(tally: Tally, performed: Performed) -> Tally {
+pub fn counted(tally: Tally, performed: Performed) -> Tally
+    ensures { λ r. ⌜ r ≡ counted tally performed ⌝ }
+{
     let mut next = tally;
     next.steps = wrapping_add_u32(tally.steps, performed.steps);
     let number = performed.number;

@@ -1,5 +1,7 @@
 // The same request on many vertices.
+ghost use mathlib.Core.Path.{_≡_};
 ghost use Prim.Native.Nat.{_<_};
+ghost use Rattle.asking.specs.Tallies.{key};
 use crate::perform::perform;
 use crate::tally::Tally;
 use crate::tally::counted;
@@ -9,7 +11,9 @@ use crate::tally::none;
 pub const VERTICES: u16 = 254;
 
 // The key of the n-th vertex; every other one lies below zero.
-pub fn key(n: u16) -> i32 {
+pub fn key(n: u16) -> i32
+    ensures { λ r. ⌜ r ≡ key n ⌝ }
+{
     let k = n as i32;
     if n % 2 == 0 {
         return k;

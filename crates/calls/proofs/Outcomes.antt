@@ -1,17 +1,14 @@
--- The outcome of a call, by the checks on the way: what each check says of the definition, and what it gives the checks after it. Assumes nothing.
-use Prim.Native.Nat.{ℕ, _<_}
+-- The outcome of a call, by the checks on the way: what each check says of the definition. Assumes nothing.
+use Prim.Native.Nat.{ℕ}
 use mathlib.Core.Bool.{Bool, true, false}
 use mathlib.Core.Path.{_≡_, refl, sym, _∙_, ap, ap₂}
-use native.Mathlib.Omega.{arith}
-use borrow.Author.Tests.{leb-true, ltb-true}
 use mir.Facts.{toZ-ofZ}
 use borrow.Author.Needs.{sfits-of}
 use lib.IntN.{ℤ}
-use lib.Dec.{leb, ltb}
-use Rattle.catalogue.specs.Tests.{pick, one-to}
+use Rattle.catalogue.specs.Tests.{pick}
 use Rattle.catalogue.specs.Catalogue.{at-vertex}
 use Rattle.catalogue.specs.Workers.{busy-at, worker-at, bare, put}
-use Rattle.catalogue.specs.Calls.{After, count-fits, worker-fits, start-up, take-up}
+use Rattle.catalogue.specs.Calls.{After, start-up, take-up}
 use Rattle.catalogue.specs.Lent.{Memory, view, sized, outcome-of, refused, lent-take-up}
 use Rattle.catalogue.specs.Steps.Places.{key-refused, first-place}
 use Rattle.catalogue.specs.declared.answers.Answer.the-variants.{Going}
@@ -22,30 +19,10 @@ use Rattle.catalogue.specs.declared.links.VertexLink.the-variants as vertex
 use Rattle.catalogue.specs.declared.workers.Place.{Place}
 use Rattle.catalogue.specs.declared.workers.Table.{Table}
 use Rattle.catalogue.specs.declared.workers.Worker.{Worker}
-use Rattle.laws.proofs.Picks.{both-true}
-use Rattle.laws.proofs.Ways.{flag, ways}
 use Rattle.memory.proofs.Sizes.{size-flag}
-
--- ---- what the checks give
-
-pub worker-below : (count w : ℕ) → worker-fits count w ≡ true → w < 8
-unfolding worker-fits count-fits
-worker-below count w e =
-    let h = both-true (one-to 8 count) (ltb w count) e in
-    let g = both-true (leb 1 count) (leb count 8) (h .0) in
-    omega (arith, leb-true count 8 (g .1), ltb-true w count (h .1))
-
--- the same, of the flag that a callee gave
-pub below-flag : (count w : ℕ) (r : Bool) → r ≡ worker-fits count w → r ≡ true → w < 8
-below-flag count w r e q = worker-below count w (sym e ∙ q)
+use Rattle.workers.proofs.CheckLaws.{below-flag, range-flag, worker-flag}
 
 -- ---- the flags in the definitions
-
-pub range-flag : (most n : ℕ) (r t : Bool) → r ≡ one-to most n → r ≡ t → one-to most n ≡ t
-range-flag most n = flag (one-to most n)
-
-pub worker-flag : (count w : ℕ) (r t : Bool) → r ≡ worker-fits count w → r ≡ t → worker-fits count w ≡ t
-worker-flag count w = flag (worker-fits count w)
 
 pub key-flag : (code : ℕ) (k l k′ l′ : ℤ) (r t : Bool) → r ≡ key-refused code k′ l′ → k′ ≡ k → l′ ≡ l → r ≡ t → key-refused code k l ≡ t
 key-flag code k l k′ l′ r t e a b q = ap₂ (key-refused code) (sym a) (sym b) ∙ sym e ∙ q
@@ -77,8 +54,6 @@ started t after n code k l k′ l′ next place w e f g a b =
     (e ∙ ap (put t n) (f ∙ ap bare (g ∙ ap₂ (λ (k l : ℤ). first-place code k l next) a b)))
 
 pub ruleset flags = (range-flag, worker-flag, size-flag, key-flag, busy-flag, toZ-ofZ, sfits-of)
-
-pub ruleset checks = (ways, flags)
 
 pub ruleset outcomes = (refl, outcome-true, outcome-false, outcome-at, outcome-torn, started, flags, below-flag)
 

@@ -24,7 +24,7 @@ use Rattle.memory.specs.Memories.{Hold, Writable}
 use Rattle.calls.specs.Promised.{Steps}
 use Rattle.memory.proofs.Laid.{view-held}
 use Rattle.memory.proofs.Sizes.{sized-is, sized-flag}
-use Rattle.calls.proofs.Outcomes.{below-flag}
+use Rattle.workers.proofs.CheckLaws.{below-flag}
 use Rattle.steps.specs.Follows.{Follows}
 use Rattle.steps.proofs.Made.{decide-follows}
 

@@ -1,13 +1,13 @@
 // One step of one worker of a table.
 ghost use Rattle.catalogue.specs.Lent.{memory-of};
 ghost use Rattle.calls.specs.Promised.{Steps};
-use crate::checks::refuse;
-use crate::checks::worker_fits;
 use crate::record::step_record;
+use crate::refusal::refuse;
 use catalogue::answers::Outcome;
 use catalogue::answers::Refusal;
 use catalogue::workers::Table;
 use memory::checks::sized;
+use workers::checks::worker_fits;
 use workers::requests::busy_at;
 use workers::table::put;
 use workers::table::worker_at;

@@ -15,7 +15,7 @@ use Rattle.catalogue.specs.declared.answers.Stepped.{Stepped}
 use Rattle.catalogue.specs.declared.workers.Worker.{Worker}
 use Rattle.memory.specs.Memories.{Hold}
 use Rattle.calls.specs.Promised as table
-use Rattle.calls.proofs.Outcomes.{worker-below}
+use Rattle.workers.proofs.CheckLaws.{worker-below}
 use Rattle.calls.proofs.Stepping.{left-unsized, left-worker, left-idle, left-stepped}
 use Rattle.host.specs.Kept.{worker-in, table-in, put-record, slot}
 use Rattle.host.specs.Packing.{packed-answer}

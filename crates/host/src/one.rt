@@ -8,8 +8,6 @@ use crate::kept::Record;
 use crate::kept::record_of;
 use crate::kept::worker_in;
 use crate::packing::packed_answer;
-use calls::checks::one_to;
-use calls::checks::worker_fits;
 use calls::record::step_record;
 use catalogue::answers::Answer;
 use catalogue::answers::Refusal;
@@ -19,6 +17,8 @@ use looks::keys::key_refused;
 use looks::places::first_place;
 use memory::checks::sized;
 use memory::reads::vertex_link;
+use workers::checks::one_to;
+use workers::checks::worker_fits;
 use workers::records::bare;
 use workers::requests::busy_at;
 

@@ -36,7 +36,7 @@ fn table_of(t: Kept) -> Table
 }
 
 // The whole call, on the table by value.
-pub fn sweep_kept(
+fn sweep_kept(
     keys: &[i32],
     words: &[u32],
     new_keys: &mut [i32],

@@ -5,9 +5,9 @@ ghost use Rattle.host.specs.Promised.{Makes-table};
 use crate::kept::Kept;
 use crate::kept::record_of;
 use crate::packing::packed_made;
-use calls::checks::one_to;
 use catalogue::answers::Made;
 use catalogue::answers::Refusal;
+use workers::checks::one_to;
 use workers::records::idle;
 
 // The table as the call leaves it, and what the call tells.
@@ -26,7 +26,7 @@ fn idle_kept(count: u32) -> Kept
 }
 
 // A count that is not 1 to 8 is refused, and what was lent is left as it is.
-pub fn make_table(t: Kept, count: u32) -> Tabled
+fn make_table(t: Kept, count: u32) -> Tabled
     ensures { λ x. ⌜ Makes-table t count (x .told) (x .table) ⌝ }
 {
     if one_to(8, count) {

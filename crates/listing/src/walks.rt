@@ -37,7 +37,7 @@ pub fn count_live_vertices(words: &[u32], x: u8, fuel: u16) -> usize
     rest
 }
 
-pub fn count_added(words: &[u32], e: u16, fuel: u16) -> usize
+fn count_added(words: &[u32], e: u16, fuel: u16) -> usize
     requires { ⌜ length (now words) ≡ 4610 ⌝ }
     ensures { λ r. ⌜ r ≡ length (added-from (linked (now (words .entry))) fuel e) ⌝ }
 {
@@ -105,7 +105,7 @@ pub fn list_vertices(
     list_vertices(keys, words, output, at, next, fuel - 1)
 }
 
-pub fn list_edges_of(
+fn list_edges_of(
     keys: &[i32],
     words: &[u32],
     output: &mut [u8],

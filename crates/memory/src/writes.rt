@@ -24,7 +24,7 @@ pub fn put_vertex_link(words: &mut [u32], n: u8, next: u8, tag: u8)
     words[at] = 4 * (next as u32) + (tag as u32);
 }
 
-pub fn put_first_link(words: &mut [u32], n: u8, next: u16)
+fn put_first_link(words: &mut [u32], n: u8, next: u16)
     requires { ⌜ length (now words) ≡ 4610 ⌝ }
     ensures { λ r. ⌜ now (words .exit) ≡ set (now (words .entry)) (258 + n) (link next plain) ⌝ }
 {
@@ -32,14 +32,14 @@ pub fn put_first_link(words: &mut [u32], n: u8, next: u16)
     words[at] = 4 * (next as u32);
 }
 
-pub fn put_vertex_count(words: &mut [u32], count: u8)
+fn put_vertex_count(words: &mut [u32], count: u8)
     requires { ⌜ length (now words) ≡ 4610 ⌝ }
     ensures { λ r. ⌜ now (words .exit) ≡ set (now (words .entry)) 0 count ⌝ }
 {
     words[0] = count as u32;
 }
 
-pub fn put_edge_key(keys: &mut [i32], n: u16, key: i32)
+fn put_edge_key(keys: &mut [i32], n: u16, key: i32)
     requires { ⌜ length (now keys) ≡ 2304 ⌝ }
     requires { ⌜ n < 2048 ⌝ }
     ensures { λ r. ⌜ now (keys .exit) ≡ set (now (keys .entry)) (256 + n) key ⌝ }
@@ -48,7 +48,7 @@ pub fn put_edge_key(keys: &mut [i32], n: u16, key: i32)
     keys[at] = key;
 }
 
-pub fn put_edge_target(words: &mut [u32], n: u16, target: u8)
+fn put_edge_target(words: &mut [u32], n: u16, target: u8)
     requires { ⌜ length (now words) ≡ 4610 ⌝ }
     requires { ⌜ n < 2048 ⌝ }
     ensures { λ r. ⌜ now (words .exit) ≡ set (now (words .entry)) (514 + n) target ⌝ }
@@ -57,7 +57,7 @@ pub fn put_edge_target(words: &mut [u32], n: u16, target: u8)
     words[at] = target as u32;
 }
 
-pub fn put_edge_link(words: &mut [u32], n: u16, next: u16, tag: u8)
+fn put_edge_link(words: &mut [u32], n: u16, next: u16, tag: u8)
     requires { ⌜ length (now words) ≡ 4610 ⌝ }
     requires { ⌜ n < 2048 ⌝ }
     ensures { λ r. ⌜ now (words .exit) ≡ set (now (words .entry)) (2562 + n) (link next tag) ⌝ }
@@ -66,7 +66,7 @@ pub fn put_edge_link(words: &mut [u32], n: u16, next: u16, tag: u8)
     words[at] = 4 * (next as u32) + (tag as u32);
 }
 
-pub fn put_edge_count(words: &mut [u32], count: u16)
+fn put_edge_count(words: &mut [u32], count: u16)
     requires { ⌜ length (now words) ≡ 4610 ⌝ }
     ensures { λ r. ⌜ now (words .exit) ≡ set (now (words .entry)) 1 count ⌝ }
 {

@@ -16,7 +16,7 @@ pub enum Edges {
 }
 
 // `left` is what the definition allows a walk: it ends there even if the links go round.
-pub fn edges_from(
+fn edges_from(
     keys: &[i32],
     words: &[u32],
     met: [u64; 4],

@@ -103,7 +103,7 @@ pub fn vertex_sound(keys: &[i32], words: &[u32], x: u8) -> bool
 }
 
 // A sweep has no use for an edge on trial.
-pub fn tag_fits(sweep: bool, tag: u8) -> bool
+fn tag_fits(sweep: bool, tag: u8) -> bool
     ensures { λ r. ⌜ r ≡ tag-fits (asks-of sweep) tag ⌝ }
 {
     if sweep {
@@ -116,7 +116,7 @@ pub fn tag_fits(sweep: bool, tag: u8) -> bool
 }
 
 // A target that is not marked has to stand on the vertex walk, whose vertices `met` has.
-pub fn target_sound(keys: &[i32], words: &[u32], met: [u64; 4], e: u16, y: u8) -> bool
+fn target_sound(keys: &[i32], words: &[u32], met: [u64; 4], e: u16, y: u8) -> bool
     requires { ⌜ Ready (now keys) (now words) met ⌝ }
     requires { ⌜ e < 2048 ⌝ }
     ensures { λ r. ⌜ r ≡ target-sound (catalogue-in (now (keys .entry)) (now (words .entry))) e y ⌝ }

@@ -14,7 +14,7 @@ pub struct Walked {
 }
 
 // In memory that nobody vouches for a walk may meet a vertex twice.
-pub fn also_met(met: [u64; 4], n: u8) -> [u64; 4]
+fn also_met(met: [u64; 4], n: u8) -> [u64; 4]
     ensures { λ r. ⌜ r ≡ also-met met n ⌝ }
 {
     if met_has(met, n) {

@@ -8,7 +8,6 @@ ghost use Rattle.sweep.specs.Promised.{Sweeps};
 use crate::checks::any_busy;
 use crate::walks::sweep_edges;
 use crate::walks::sweep_vertices;
-use calls::checks::one_to;
 use catalogue::answers::Made;
 use catalogue::answers::Refusal;
 use catalogue::workers::Table;
@@ -16,6 +15,7 @@ use memory::checks::sized;
 use memory::fresh::lay_fresh;
 use survey::soundness::sound;
 use survey::tests::next_vertex;
+use workers::checks::one_to;
 
 // The vertices first, so that every target has its new number when its edge is made.
 fn sweep_sound(keys: &[i32], words: &[u32], new_keys: &mut [i32], new_words: &mut [u32])

@@ -58,7 +58,7 @@ pub fn sweep_vertices(
 }
 
 // The live edges from e on, at the tip of their list; answers how many edges are made then.
-pub fn sweep_edges_of(
+fn sweep_edges_of(
     keys: &[i32],
     words: &[u32],
     numbers: &[u8],
@@ -97,7 +97,7 @@ pub fn sweep_edges_of(
 }
 
 // All edges of x, behind n others.
-pub fn sweep_list(
+fn sweep_list(
     keys: &[i32],
     words: &[u32],
     numbers: &[u8],

@@ -10,7 +10,7 @@ use crate::puts::put_byte;
 use crate::puts::put_natural;
 use crate::puts::put_number;
 
-pub fn put_followed(output: &mut [u8], at: usize, n: i32, b: u8) -> usize
+fn put_followed(output: &mut [u8], at: usize, n: i32, b: u8) -> usize
     requires { ⌜ at + 12 ≤ length (now output) ⌝ }
     ensures { λ r. ⌜ now (output .exit) ≡ put-at (now (output .entry)) at (number n ++ (b ∷ [])) ⌝ }
     ensures { λ r. ⌜ r ≡ at + length (number n ++ (b ∷ [])) ⌝ }
@@ -46,7 +46,7 @@ pub fn put_natural_followed(output: &mut [u8], at: usize, n: u32, b: u8) -> usiz
     put_byte(output, end, b)
 }
 
-pub fn put_two(output: &mut [u8], at: usize, a: u32, b: u32) -> usize
+fn put_two(output: &mut [u8], at: usize, a: u32, b: u32) -> usize
     requires { ⌜ at + 24 ≤ length (now output) ⌝ }
     ensures { λ r. ⌜ now (output .exit) ≡ put-at (now (output .entry)) at (line (pos a ∷ (pos b ∷ []))) ⌝ }
     ensures { λ r. ⌜ r ≡ at + length (line (pos a ∷ (pos b ∷ []))) ⌝ }

@@ -1,3 +1,4 @@
--- Laws of places and of the queue.
+-- Laws of checks, of places and of the queue.
+pub mod CheckLaws
 pub mod PlaceLaws
 pub mod QueueLaws

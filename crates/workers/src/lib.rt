@@ -1,4 +1,5 @@
-// A worker's record and the table of workers, by value.
+// A worker's record and the table of workers, by value; and the checks of counts and numbers.
+pub mod checks;
 pub mod met;
 pub mod records;
 pub mod requests;

@@ -1,6 +1,7 @@
 -- Each way out is the case of the definition that its checks choose. Assumes nothing.
 use Rattle.memory.proofs.Sizes.{sized-flag}
-use Rattle.calls.proofs.Outcomes.{taking-up, below-flag}
+use Rattle.workers.proofs.CheckLaws.{below-flag}
+use Rattle.calls.proofs.Outcomes.{taking-up}
 use Rattle.catalogue.specs.Calls.{take-up}
 use borrow.Author.Needs.{needs}
 use Rattle.calls.proofs.take_up.take_up.Statement.{statement}

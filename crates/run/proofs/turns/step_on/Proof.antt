@@ -1,7 +1,7 @@
 -- The step of the record is the step of its worker: the checks before it are those that were asked for. Assumes nothing.
 use mathlib.Core.Path.{refl}
 use borrow.Author.Needs.{needs}
-use Rattle.calls.proofs.Outcomes.{worker-below}
+use Rattle.workers.proofs.CheckLaws.{worker-below}
 use Rattle.calls.proofs.Stepping.{left-stepped}
 use Rattle.run.proofs.TurnLaws.{is-sized}
 use Rattle.run.proofs.turns.step_on.Statement.{statement}

@@ -1,6 +1,6 @@
 -- A busy worker steps and its answer is told; an idle one takes up its next request. Assumes nothing.
 use Rattle.run.proofs.TurnLaws.{on-worker, step-turn, take-turn}
-use Rattle.calls.proofs.Outcomes.{worker-below}
+use Rattle.workers.proofs.CheckLaws.{worker-below}
 use borrow.Author.Needs.{needs}
 use Rattle.run.proofs.turns.turn.Statement.{statement}
 use Rattle.run.proofs.turns.turn.Tie as tie

@@ -1,22 +1,7 @@
-// The checks that the calls share, and a refusal.
+// The checks of counts, of workers' numbers and of codes.
 ghost use mathlib.Core.Path.{_≡_};
 ghost use Rattle.catalogue.specs.Tests.{one-to};
 ghost use Rattle.catalogue.specs.Calls.{worker-fits};
-ghost use Rattle.catalogue.specs.Lent.{refused};
-use catalogue::answers::Answer;
-use catalogue::answers::Outcome;
-use catalogue::answers::Refusal;
-use catalogue::workers::Table;
-
-// A refusal leaves the table as it was.
-pub fn refuse(table: Table, refusal: Refusal) -> Outcome
-    ensures { λ r. ⌜ r ≡ refused table refusal ⌝ }
-{
-    Outcome {
-        table,
-        answer: Answer::Refused { refusal },
-    }
-}
 
 // A number is 1 to another: a count of workers (21), a code (24).
 pub fn one_to(most: u32, n: u32) -> bool

@@ -1,11 +1,11 @@
 -- The tests are those of the definition. Assumes nothing.
-use Rattle.calls.proofs.Outcomes.{range-flag}
+use Rattle.workers.proofs.CheckLaws.{range-flag}
 use Rattle.laws.proofs.Ways.{on-true, on-false}
 use Rattle.catalogue.specs.Calls.{worker-fits, count-fits}
 use borrow.Author.Needs.{needs}
 use borrow.Author.Tests.{lt-ltb, le-ltb}
-use Rattle.calls.proofs.checks.worker_fits.Statement.{statement}
-use Rattle.calls.proofs.checks.worker_fits.Tie as tie
+use Rattle.workers.proofs.checks.worker_fits.Statement.{statement}
+use Rattle.workers.proofs.checks.worker_fits.Tie as tie
 
 one-to-requires : tie.Need-one-to-requires
 one-to-requires c κs = search needs
