@@ -1,7 +1,8 @@
 -- The three replies that stand outside the row: 6, 7 and 9.
 pub mod Replies
-pub mod Room
 pub mod Spots
+pub mod Needed
+pub mod Room
 pub mod Rivals
 pub mod Tried
 pub mod Run

@@ -22,6 +22,7 @@ use Rattle.catalogue.specs.declared.workers.Place.{Place}
 use Rattle.catalogue.specs.declared.workers.Place.the-variants.{AddV, AddE, Trial, TrialOpen}
 use Rattle.catalogue.specs.declared.workers.Prev.{Prev}
 use Rattle.promises.specs.Moments.{at, moment, chosen, place-of}
+use Rattle.promises.specs.Graphs.{Graph}
 
 -- what a worker's step replies, and which catalogue that leaves
 abbrev pub Replies : Moment → ℕ → ℕ → Type 0
@@ -38,6 +39,11 @@ pub data Lacks (C : Catalogue) : Place → Type 0 where
       → C .vertices-out ≡ most-vertices → Lacks C (AddV k p c)
   an-edge : {k l : ℤ} {u v : ℕ} {p : Prev} {c : ℕ} (kept next tag : ℕ) → look-at-edge C l u v p c ≡ edge-seen.Settles kept next tag false
       → C .edges-out ≡ most-edges → Lacks C (AddE k l u v p c)
+
+-- What it is needed for: a series that is not live; or a derivation that is not there, between two series that are live.
+pub data Needed (g : Graph) : Place → Type 0 where
+  a-series : {k : ℤ} {p c : ℕ} → g .series k ≡ false → Needed g (AddV k p c)
+  a-derivation : {k l : ℤ} {u v : ℕ} {p : Prev} {c : ℕ} → g .series k ≡ true → g .series l ≡ true → g .derived k l ≡ false → Needed g (AddE k l u v p c)
 
 -- ---- 7
 

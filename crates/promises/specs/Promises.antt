@@ -23,7 +23,7 @@ use Rattle.promises.specs.Graphs.{Graph, empty, live, Walk}
 use Rattle.promises.specs.Alone.{Ask, Alone}
 use Rattle.promises.specs.Bounds.{ConVBound, ConEBound, TrialBound, TrialAlone}
 use Rattle.promises.specs.Histories.{history, in-row, replies-of}
-use Rattle.promises.specs.Outside.{Replies, left, Lacks, Tries, Rival, TrialEdge, Tried, Lives, Crosses, Closes, Undisturbed}
+use Rattle.promises.specs.Outside.{Replies, left, Lacks, Needed, Tries, Rival, TrialEdge, Tried, Lives, Crosses, Closes, Undisturbed}
 
 -- No series is derived from itself, over however many derivations between live series.
 abbrev pub NoLoop : Type 0
@@ -88,12 +88,12 @@ pub record Outcome (g : Graph) (q : Ask) : Type 0 where
 abbrev pub OneOutcome : Type 0
 OneOutcome = (C : Catalogue) (q : Ask) → Outcome (live C) q
 
--- Reply 9 is given exactly where a node is needed and its pool is used up, and changes nothing.
+-- Reply 9 is given exactly where a node is needed and its pool is used up: what was to be added is not in the live graph then. It changes nothing.
 abbrev pub NoRoom : Type 0
 NoRoom =
     (workers : ℕ) (choices : List Choice) → Given workers choices → (w : ℕ) → w < workers → let m = at workers choices in
     (Replies m w 9 → Lacks (m .catalogue) (place-of m w)) × (Lacks (m .catalogue) (place-of m w) → Replies m w 9)
-    × (Replies m w 9 → left m w ≡ m .catalogue)
+    × (Replies m w 9 → Needed (live (m .catalogue)) (place-of m w)) × (Replies m w 9 → left m w ≡ m .catalogue)
 
 -- Reply 7 is given only while another worker tries the pair that w was asked for, and changes nothing.
 abbrev pub OnTrial : Type 0

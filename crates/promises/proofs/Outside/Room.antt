@@ -26,6 +26,7 @@ use Rattle.promises.proofs.Runs.Course.{held-at}
 use Rattle.promises.proofs.Fates.Told.{Told, in-row, lacks, on-trial, loops}
 use Rattle.promises.proofs.Fates.Any.{fate}
 use Rattle.promises.proofs.Outside.Replies.{replied-by, replies, unwritten, fits-table}
+use Rattle.promises.proofs.Outside.Needed.{needed}
 
 -- what is told with 9
 nine : {C : Catalogue} {x front back : ℕ} {pl : Place} {n : ℕ} {write : Write} → n ≡ 9 → Told C x front back pl n write
@@ -54,11 +55,13 @@ given m w r =
 pub no-room : NoRoom
 no-room workers choices g w low =
     let m : Moment = at workers choices in
-    let h = held-at workers choices g .1 in
+    let y = held-at workers choices g in
+    let h = y .1 in
     let most = g .most in
     let asked = h .shown w (omega arith) .asked in
     let fits = fits-table (m .table .count) workers w (h .counted) (g .most) low in (
       λ r. given m w r .0,
       λ z. (let n = needs (m .catalogue) (worker-at (m .table) w) asked (place-of m w) refl z in replies (m .catalogue) (m .table) w fits (n .0) 9 Nothing (n .1)),
+      λ r. needed workers m (y .0) h most w low (given m w r .0),
       λ r. given m w r .1,
     )

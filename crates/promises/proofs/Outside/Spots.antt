@@ -23,6 +23,30 @@ use Rattle.promises.proofs.Showing.Shows.{Stands, Hunted, prev-of, tria
 use Rattle.promises.proofs.Runs.Held.{Held}
 use Rattle.promises.proofs.Fates.Told.{trying, tries-trying}
 
+-- ---- AddV's look
+
+module _ (used : ℕ) (w : Worker) (k : ℤ) (p c : ℕ) (e : w .place ≡ place.AddV k p c) where
+  pub adds-vertex-spot : (s : Spot) → Stands used w s → s ≡ Vert (AddV k p c)
+  adds-vertex-spot Rest q = clash (cc)
+  adds-vertex-spot (Vert Idle) q = absurd q
+  adds-vertex-spot (Vert (AddV j r d)) q = cc
+  adds-vertex-spot (Vert (RemV j r d)) q = clash (cc)
+  adds-vertex-spot (Vert (ConV j d)) q = clash (cc)
+  adds-vertex-spot (FindU adds i j d) q = clash (cc)
+  adds-vertex-spot (FindU rems i j d) q = clash (cc)
+  adds-vertex-spot (FindU cons i j d) q = clash (cc)
+  adds-vertex-spot (FindV adds i j x d) q = clash (cc)
+  adds-vertex-spot (FindV rems i j x d) q = clash (cc)
+  adds-vertex-spot (FindV cons i j x d) q = clash (cc)
+  adds-vertex-spot (LookE true i j x y r d) q = clash (cc (q .0))
+  adds-vertex-spot (LookE false i j x y r d) q = clash (cc (q .0))
+  adds-vertex-spot (ConE i j x y d) q = clash (cc)
+  adds-vertex-spot (Trial i j x y f h) q = by (h .stand) (q .0)
+    where
+      by : (o : Opened) → w .place ≡ trial-place i j x y f o → Trial i j x y f h ≡ Vert (AddV k p c)
+      by closed z = clash (cc)
+      by (opened a b) z = clash (cc)
+
 -- ---- AddE's look
 
 pub record Looks (k l : ℤ) (u v : ℕ) (p : Prev.Prev) (c : ℕ) (s : Spot) : Type 0 where

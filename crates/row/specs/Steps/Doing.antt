@@ -52,10 +52,10 @@ module _ (W : World) (g : WGood W) (k l : ℤ) (u v : ℕ) (pr : Pair W k l u v)
   e-place : {p : Prev} {c : ℕ} → EAims (W .e) u l p → ELeads W u p c → EInner (W .e) u p
   e-place a w = record { inside = a .inside; inner = a .inner; plain = w .plain }
 
-  live-u : Calm W u v → live (W .v) k ≡ true
+  pub live-u : Calm W u v → live (W .v) k ≡ true
   live-u m = present-yes {C = W .v} (record { node = u; low = pr .source .low; high = pr .source .high; plain = m .source; holds = pr .source .holds })
 
-  live-v : Calm W u v → live (W .v) l ≡ true
+  pub live-v : Calm W u v → live (W .v) l ≡ true
   live-v m = present-yes {C = W .v} (record { node = v; low = pr .goal .low; high = pr .goal .high; plain = m .goal; holds = pr .goal .holds })
 
   present-c : (c : ℕ) → Calm W u v → InList (W .e) u c → W .e .tag c ≡ added → W .v .marked (W .e .target c) ≡ false → W .e .key c ≡ l → PresentE W k l
@@ -76,7 +76,7 @@ module _ (W : World) (g : WGood W) (k l : ℤ) (u v : ℕ) (pr : Pair W k l u v)
   absent-c c m i n e d =
       edge-no W k l (λ p. let z : p .node ≡ c = edge-is-c W g u c (pr .source) m i n e p in d (rw z at (p .is)) (rw z at (p .goal)))
 
-  absent-gap : {p : Prev} {c : ℕ} → EAims (W .e) u l p → ELeads W u p c → W .v .marked u ≡ false → l <ℤ W .e .key c → edges W k l ≡ false
+  pub absent-gap : {p : Prev} {c : ℕ} → EAims (W .e) u l p → ELeads W u p c → W .v .marked u ≡ false → l <ℤ W .e .key c → edges W k l ≡ false
   absent-gap {p} {c} a w m h =
       let s = g .esound .sorted u in
       edge-no W k l (λ q. gap-dead head (at 0) (eview (W .e) u) s (s .linked p (a .inside) (w .plain)) (a .below) (rw (w .leads) h) (a .inner) (listed W g u (pr .source) m q))

@@ -88,7 +88,7 @@ pub data Means (C : Cat) (k : ℤ) (p c : ℕ) : Seen → Type 0 where
   m-onward : Leads C p c → C .marked c ≡ false → C .key c <ℤ k → Means C k p c onward
   m-settle : Leads C p c → C .marked c ≡ false → (C .key c ≡ k) ⊎ (k <ℤ C .key c) → Means C k p c settle
 
-means : (C : Cat) (k : ℤ) (p c : ℕ) → Means C k p c (look C k p c)
+pub means : (C : Cat) (k : ℤ) (p c : ℕ) → Means C k p c (look C k p c)
 means C k p c = by (eqb (C .next p) c && not (C .marked p)) (C .marked c) (ltZ (C .key c) k) refl refl refl
   where
     leads′ : (eqb (C .next p) c && not (C .marked p)) ≡ true → Leads C p c
@@ -129,7 +129,8 @@ module _ (C : Cat) (g : Good C) (k : ℤ) (l : Legal k) where
   present : {p c : ℕ} → Aims C k p → Leads C p c → C .marked c ≡ false → C .key c ≡ k → Present C k
   present a w u e = let z = stands a w u e in record { node = _; low = z .low; high = z .high; plain = z .plain; holds = e }
 
-  absent : {p c : ℕ} → Aims C k p → Leads C p c → k <ℤ C .key c → live C k ≡ false
+  -- nothing between p and c
+  pub absent : {p c : ℕ} → Aims C k p → Leads C p c → k <ℤ C .key c → live C k ≡ false
   absent {p} {c} a w h =
       present-no C k (λ v. gap-dead 0 1 (view C) (g .sound .sorted)
       (g .sound .sorted .linked p (a .high) (w .plain)) (a .below) (rw (w .leads) h) (a .inner) (present-live v))
