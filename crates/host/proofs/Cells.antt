@@ -24,13 +24,13 @@ use denote.RattleType.{RattleType}
 use borrow.Struct.Behind.{put-at}
 use borrow.Struct.Items.{cut-records}
 use borrow.Struct.Way.{Cut}
-use Rattle.host.specs.Kept.{empty, record-at, put-record}
-use Rattle.host.specs.declared.kept.Kept.{Kept}
-use Rattle.host.specs.declared.kept.Record.{Record}
-use Rattle.host.proofs.kept.Kept as K
-use Rattle.host.proofs.kept.Kept.Laws as K′
-use Rattle.host.proofs.kept.Record as R
-use Rattle.host.proofs.kept.Record.Laws as R′
+use Rattle.numbers.specs.Kept.{empty, record-at, put-record}
+use Rattle.numbers.specs.declared.kept.Kept.{Kept}
+use Rattle.numbers.specs.declared.kept.Record.{Record}
+use Rattle.numbers.proofs.kept.Kept as K
+use Rattle.numbers.proofs.kept.Kept.Laws as K′
+use Rattle.numbers.proofs.kept.Record as R
+use Rattle.numbers.proofs.kept.Record.Laws as R′
 
 -- a value in memory is its machine values and what they own
 module _ {M : Type 1} (𝓤 : URA M) (H : Heap 𝓤) (A : Atoms 𝓤) (W : Given 𝓤 H A) (R : RattleType) (x : R .Denot) (b o : ℕ) where

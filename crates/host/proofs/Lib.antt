@@ -1,9 +1,7 @@
--- Laws of places and records as numbers, of the one record that a call moves, of a record in memory, and what the walks share.
+-- Laws of the one record that a call moves, of a record in memory, and what the walks share.
 pub mod Cells
 pub mod Moves
-pub mod Packed
 pub mod Parts
-pub mod Places
 pub mod Slots
 pub mod Starting
 pub mod Stepping

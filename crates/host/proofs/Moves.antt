@@ -18,14 +18,14 @@ use Rattle.catalogue.specs.declared.answers.Outcome.{Outcome}
 use Rattle.catalogue.specs.declared.answers.Refusal.{Refusal}
 use Rattle.catalogue.specs.declared.workers.Table.{Table}
 use Rattle.catalogue.specs.declared.workers.Worker.{Worker}
-use Rattle.host.specs.Kept.{prev-in, edge-place-in, finding-place-in, place-in, worker-in, table-in, record-of, put-record, empty, record-at, slot}
-use Rattle.host.specs.Packing.{packed-answer}
+use Rattle.numbers.specs.Kept.{prev-in, edge-place-in, finding-place-in, place-in, worker-in, table-in, record-of, put-record, empty, record-at, slot}
+use Rattle.numbers.specs.Packing.{packed-answer}
+use Rattle.numbers.specs.declared.kept.Kept.{Kept}
+use Rattle.numbers.specs.declared.kept.Record.{Record}
+use Rattle.numbers.proofs.Places.{worker-back}
 use Rattle.host.specs.Promised.{refuses, left-of, Leaves}
 use Rattle.host.specs.Moves.{refused, moved, settled}
-use Rattle.host.specs.declared.kept.Kept.{Kept}
-use Rattle.host.specs.declared.kept.Record.{Record}
 use Rattle.host.specs.declared.one.Moved.{Moved}
-use Rattle.host.proofs.Places.{worker-back}
 
 -- ---- what the code makes
 

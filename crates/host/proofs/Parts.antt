@@ -1,21 +1,18 @@
 -- What the walks speak of: the machine values of a table, the parts of what a call gives, and the numbers on the way to a record. Assumes nothing.
 use Prim.Native.Nat.{ℕ, _+_, _*_, _<_, _^_}
 use mathlib.Core.List.{List, [], _∷_}
-use mathlib.Core.Path.{_≡_, refl, sym, _∙_}
+use mathlib.Core.Path.{_≡_, sym}
 use native.Mathlib.Omega.{arith}
-use lib.ListN.{length, length-map}
 use mir.Val.{Val}
-use prog.Memory.{size}
 use denote.Index.{place-is}
 use denote.Laws.{Is}
-use denote.Memory.{lone}
 use denote.Struct.Laws as LL
-use Rattle.host.specs.Kept.{slot, table-size}
-use Rattle.host.specs.declared.kept.Kept.{Kept}
+use Rattle.numbers.specs.Kept.{slot}
+use Rattle.numbers.specs.declared.kept.Kept.{Kept}
+use Rattle.numbers.proofs.kept.Kept as K
+use Rattle.numbers.proofs.kept.Kept.Laws as K′
+use Rattle.numbers.proofs.kept.Record as R
 use Rattle.host.specs.declared.one.Moved.{Moved}
-use Rattle.host.proofs.kept.Kept as K
-use Rattle.host.proofs.kept.Kept.Laws as K′
-use Rattle.host.proofs.kept.Record as R
 use Rattle.host.proofs.one.Moved as S
 use Rattle.host.proofs.one.Moved.Laws as S′
 use Rattle.host.proofs.Cells.{record-place, record-vals}
@@ -23,10 +20,6 @@ use Rattle.host.proofs.Cells.{record-place, record-vals}
 -- its one machine value
 abbrev pub kept-vals : Kept → List Val
 kept-vals = LL.vals K.the-type K′.the-laws
-
--- a table that is there has eight records
-pub eight-records : (t : Kept) (v : Val) → Is K.the-row t (v ∷ []) → length (t .records) ≡ 8
-eight-records t v is = sym (length-map (t .records) _) ∙ LL.owed K.the-type K′.the-laws t (v ∷ []) is .1 .0 .1 .0 .1
 
 -- the record's number, and how far it lies from the first
 pub slot-below : (n : ℕ) → slot n < 8
@@ -37,10 +30,6 @@ far n = omega (arith, slot-below n)
 
 pub at-record : (o i : ℕ) → i * 312 + (o + 8) ≡ record-place o i
 at-record o i = sym (place-is 312 (o + 8) i)
-
--- the stated size is that of the table's layout
-pub table-sized : table-size ≡ size (lone (K.the-row .mir))
-table-sized = refl
 
 -- the parts of what a call gives
 pub is-kept : (x : Moved) (v : Val) → Is S.the-row x (v ∷ []) → Is R.the-row (x .kept) (record-vals (x .kept))

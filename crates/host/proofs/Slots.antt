@@ -19,7 +19,7 @@ use denote.Steps.{owned, nothing}
 use denote.Triple.Statement.{Contract}
 use denote.Triple.Spec.{tripleOf}
 use denote.Triple.Clauses.{ensured, lasts}
-use Rattle.host.specs.Kept.{slot}
+use Rattle.numbers.specs.Kept.{slot}
 use Rattle.host.proofs.one.slot as slot-fn
 
 module _ {M : Type 1} (𝓤 : URA M) (H : Heap 𝓤) (A : Atoms 𝓤) (at-mem : Memory → SProp 𝓤) (run : Routine → Fun 𝓤) where

@@ -20,12 +20,12 @@ use Rattle.catalogue.specs.declared.workers.Worker.{Worker}
 use Rattle.workers.proofs.CheckLaws.{worker-below}
 use Rattle.calls.proofs.Outcomes.{taken-room, taken-up, flags}
 use Rattle.laws.proofs.Ways.{on-true, on-false, vertex-at, vertex-torn}
-use Rattle.host.specs.Kept.{worker-in, table-in, put-record, record-at, slot}
-use Rattle.host.specs.Packing.{packed-answer}
+use Rattle.numbers.specs.Kept.{worker-in, table-in, put-record, record-at, slot}
+use Rattle.numbers.specs.Packing.{packed-answer}
+use Rattle.numbers.specs.declared.kept.Kept.{Kept}
+use Rattle.numbers.specs.declared.kept.Record.{Record}
 use Rattle.host.specs.Promised.{Takes-up, Takes-up-one}
 use Rattle.host.specs.Moves.{refused, moved, start-at, start-one}
-use Rattle.host.specs.declared.kept.Kept.{Kept}
-use Rattle.host.specs.declared.kept.Record.{Record}
 use Rattle.host.specs.declared.one.Moved.{Moved}
 use Rattle.host.proofs.Moves.{Stores, leaves, stores-refused, stores-moved, worker-is}
 

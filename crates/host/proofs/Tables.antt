@@ -1,11 +1,10 @@
--- A table as it is written down: the ways out of making one of idle workers, and all its records read back. Assumes nothing.
-use Prim.Native.Nat.{ℕ, zero, suc}
+-- A table as it is written down: the ways out of making one of idle workers, and of a sweep that reads one. Assumes nothing.
+use Prim.Native.Nat.{ℕ}
 use mathlib.Core.Bool.{Bool, true, false}
-use mathlib.Core.List.{List, [], _∷_, map}
+use mathlib.Core.List.{List}
 use mathlib.Core.Path.{_≡_, refl, sym, _∙_, ap, subst}
-use native.Mathlib.Omega.{arith}
 use lib.IntN.{ℤ}
-use lib.ListN.{length, getD, replicate}
+use lib.ListN.{replicate}
 use Rattle.catalogue.specs.Tests.{one-to}
 use Rattle.catalogue.specs.Workers.{idle, idle-table}
 use Rattle.catalogue.specs.Calls.{count-fits}
@@ -15,13 +14,13 @@ use Rattle.catalogue.specs.declared.answers.Made.the-variants.{Done, Refused}
 use Rattle.catalogue.specs.declared.answers.Refusal.the-variants as refusal
 use Rattle.catalogue.specs.declared.workers.Worker.{Worker}
 use Rattle.catalogue.specs.declared.workers.Table.{Table}
-use Rattle.host.specs.Kept.{worker-in, record-of, table-in, idle-kept, record-at, empty}
-use Rattle.host.specs.Packing.{packed-made}
+use Rattle.numbers.specs.Kept.{record-of, table-in, idle-kept}
+use Rattle.numbers.specs.Packing.{packed-made}
+use Rattle.numbers.specs.declared.kept.Kept.{Kept}
+use Rattle.numbers.specs.declared.kept.Record.{Record}
+use Rattle.numbers.proofs.Places.{worker-back}
 use Rattle.sweep.specs.Promised as swept
 use Rattle.host.specs.Promised.{Makes-table, Sweeps}
-use Rattle.host.specs.declared.kept.Kept.{Kept}
-use Rattle.host.specs.declared.kept.Record.{Record}
-use Rattle.host.proofs.Places.{worker-back}
 
 pub kept-made : (count : ℕ) (r : Record) (w : Worker) → w ≡ idle → r ≡ record-of w → _≡_ {A = Kept} (record { count = count; records = replicate 8 r }) (idle-kept count)
 kept-made count r w e f = ap (λ (r : Record). record { count = count; records = replicate 8 r }) (f ∙ ap record-of e)
@@ -40,29 +39,6 @@ module _ (t : Kept) (count : ℕ) (fits : Bool) (e : fits ≡ one-to 8 count) (t
   pub table-refused : fits ≡ false → t′ ≡ t → told ≡ packed-made (Refused refusal.Worker) → Makes-table t count told t′
   unfolding count-fits
   table-refused h f g = rw (sym e ∙ h) (g, (f, ap table-in f))
-
--- so many members of a list, from a number on
-abbrev members-from : {A : Type 0} → A → List A → ℕ → ℕ → List A
-members-from d l i zero = []
-members-from d l i (suc n) = getD l i d ∷ members-from d l (suc i) n
-
-behind-one : {A : Type 0} (d x : A) (l : List A) (i n : ℕ) → members-from d l i n ≡ members-from d (x ∷ l) (suc i) n
-behind-one d x l i zero = refl
-behind-one d x l i (suc n) = ap (λ r. getD l i d ∷ r) (behind-one d x l (suc i) n)
-
--- a list is that of its members by their numbers
-all-members : {A : Type 0} (d : A) (l : List A) (n : ℕ) → length l ≡ n → l ≡ members-from d l 0 n
-all-members d [] zero e = refl
-all-members d (x ∷ l) zero e = absurd (omega (arith, e))
-all-members d [] (suc n) e = absurd (omega (arith, e))
-all-members d (x ∷ l) (suc n) e = ap (λ r. x ∷ r) (all-members d l n (omega (arith, e)) ∙ behind-one d x l 0 n)
-
-pub all-read : (t : Kept) → length (t .records) ≡ 8 → (w0 w1 w2 w3 w4 w5 w6 w7 : Worker)
-    → w0 ≡ worker-in (record-at t 0) → w1 ≡ worker-in (record-at t 1) → w2 ≡ worker-in (record-at t 2) → w3 ≡ worker-in (record-at t 3)
-    → w4 ≡ worker-in (record-at t 4) → w5 ≡ worker-in (record-at t 5) → w6 ≡ worker-in (record-at t 6) → w7 ≡ worker-in (record-at t 7)
-    → _≡_ {A = Table} (record { count = t .count; workers = w0 ∷ (w1 ∷ (w2 ∷ (w3 ∷ (w4 ∷ (w5 ∷ (w6 ∷ (w7 ∷ []))))))) }) (table-in t)
-all-read t long w0 w1 w2 w3 w4 w5 w6 w7 e0 e1 e2 e3 e4 e5 e6 e7 =
-    simp (e0, e1, e2, e3, e4, e5, e6, e7) (sym (ap (λ (l : List Record). record { count = t .count; workers = map worker-in l }) (all-members empty (t .records) 8 long)))
 
 -- what the covered sweep promises of the table that was read back, it promises of the lent one
 pub sweep-told : (m n : Memory) (t : Kept) {table : Table} {made : Made} {told : ℕ} {keys : List ℤ} {words : List ℕ} → table ≡ table-in t

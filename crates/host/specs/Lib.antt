@@ -1,6 +1,4 @@
 -- What the host's calls promise, over the definitions of document 01, and that it leaves no choice.
-pub mod Kept
 pub mod Moves
-pub mod Packing
 pub mod Promised
 pub mod Unique

@@ -11,9 +11,9 @@ use Rattle.catalogue.specs.declared.answers.Answer.the-variants.{Going, Reply, 
 use Rattle.catalogue.specs.declared.answers.Refusal.{Refusal}
 use Rattle.catalogue.specs.declared.answers.Refusal.the-variants as refusal
 use Rattle.catalogue.specs.declared.workers.Worker.{Worker}
-use Rattle.host.specs.Kept.{record-of}
-use Rattle.host.specs.Packing.{packed-answer}
-use Rattle.host.specs.declared.kept.Record.{Record}
+use Rattle.numbers.specs.Kept.{record-of}
+use Rattle.numbers.specs.Packing.{packed-answer}
+use Rattle.numbers.specs.declared.kept.Record.{Record}
 use Rattle.host.specs.declared.one.Moved.{Moved}
 
 unfoldable pub refused : Record → Refusal → Moved

@@ -14,10 +14,10 @@ use Rattle.catalogue.specs.declared.answers.Outcome.{Outcome}
 use Rattle.catalogue.specs.declared.answers.Made.the-variants.{Done, Refused}
 use Rattle.catalogue.specs.declared.answers.Refusal.the-variants.{Worker}
 use Rattle.catalogue.specs.Lent.{Memory, lent-fresh, lent-take-up, lent-step, lent-listing, lent-run, lent-sweep}
-use Rattle.host.specs.Kept.{table-in, record-of, record-at, put-record, slot, idle-kept}
-use Rattle.host.specs.Packing.{packed-answer, packed-listed, packed-made, packed-ran}
-use Rattle.host.specs.declared.kept.Kept.{Kept}
-use Rattle.host.specs.declared.kept.Record.{Record}
+use Rattle.numbers.specs.Kept.{table-in, record-of, record-at, put-record, slot, idle-kept}
+use Rattle.numbers.specs.Packing.{packed-answer, packed-listed, packed-made, packed-ran}
+use Rattle.numbers.specs.declared.kept.Kept.{Kept}
+use Rattle.numbers.specs.declared.kept.Record.{Record}
 use Rattle.host.specs.declared.one.Moved.{Moved}
 
 abbrev pub refuses : Answer → Bool

@@ -4,8 +4,8 @@ use mathlib.Core.List.{List}
 use mathlib.Core.Path.{_≡_, sym, _∙_}
 use lib.IntN.{ℤ}
 use Rattle.catalogue.specs.Lent.{Memory}
+use Rattle.numbers.specs.declared.kept.Kept.{Kept}
 use Rattle.host.specs.Promised.{Steps, Takes-up, Makes-table, Makes-fresh, Lists, Runs, Sweeps}
-use Rattle.host.specs.declared.kept.Kept.{Kept}
 
 pub steps-unique : (m : Memory) (t : Kept) (w r r′ : ℕ) (s s′ : Kept) (keys keys′ : List ℤ) (words words′ : List ℕ)
     → Steps m t w r s keys words → Steps m t w r′ s′ keys′ words′ → (r ≡ r′) × (s ≡ s′) × (keys ≡ keys′) × (words ≡ words′)

@@ -1,13 +1,9 @@
 // A step and taking up, on the one record that they read and store back.
 ghost use mathlib.Core.Path.{_≡_};
 ghost use Rattle.catalogue.specs.Lent.{Sized, memory-of, catalogue-in};
-ghost use Rattle.host.specs.Kept.{slot};
+ghost use Rattle.numbers.specs.Kept.{slot};
 ghost use Rattle.host.specs.Promised.{Steps-one, Takes-up-one};
 ghost use Rattle.host.specs.Moves.{moved, refused, settled, start-at, start-one};
-use crate::kept::Record;
-use crate::kept::record_of;
-use crate::kept::worker_in;
-use crate::packing::packed_answer;
 use calls::record::step_record;
 use catalogue::answers::Answer;
 use catalogue::answers::Refusal;
@@ -17,6 +13,10 @@ use looks::keys::key_refused;
 use looks::places::first_place;
 use memory::checks::sized;
 use memory::reads::vertex_link;
+use numbers::kept::Record;
+use numbers::kept::record_of;
+use numbers::kept::worker_in;
+use numbers::packing::packed_answer;
 use workers::checks::one_to;
 use workers::checks::worker_fits;
 use workers::records::bare;

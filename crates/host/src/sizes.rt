@@ -1,7 +1,7 @@
 // How much memory a host lends.
 ghost use mathlib.Core.Path.{_≡_};
 ghost use Rattle.catalogue.specs.Lent.{keys-size, words-size, output-size};
-ghost use Rattle.host.specs.Kept.{table-size};
+ghost use Rattle.numbers.specs.Kept.{table-size};
 
 // The keys of a catalogue, in numbers of 32 bits.
 #[no_mangle]

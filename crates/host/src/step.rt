@@ -1,9 +1,9 @@
 // The call that moves a worker on by one step.
 ghost use Rattle.catalogue.specs.Lent.{memory-of};
 ghost use Rattle.host.specs.Promised.{Steps};
-use crate::kept::Kept;
 use crate::one::slot;
 use crate::one::step_one;
+use numbers::kept::Kept;
 
 // Only the worker's record is read and stored back.
 #[no_mangle]

@@ -1,12 +1,12 @@
 // The call that makes a table of idle workers.
 ghost use mathlib.Core.Path.{_≡_};
-ghost use Rattle.host.specs.Kept.{idle-kept};
+ghost use Rattle.numbers.specs.Kept.{idle-kept};
 ghost use Rattle.host.specs.Promised.{Makes-table};
-use crate::kept::Kept;
-use crate::kept::record_of;
-use crate::packing::packed_made;
 use catalogue::answers::Made;
 use catalogue::answers::Refusal;
+use numbers::kept::Kept;
+use numbers::kept::record_of;
+use numbers::packing::packed_made;
 use workers::checks::one_to;
 use workers::records::idle;
 

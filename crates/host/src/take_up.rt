@@ -1,9 +1,9 @@
 // The call by which a worker takes up a request.
 ghost use Rattle.catalogue.specs.Lent.{memory-of};
 ghost use Rattle.host.specs.Promised.{Takes-up};
-use crate::kept::Kept;
 use crate::one::slot;
 use crate::one::take_up_one;
+use numbers::kept::Kept;
 
 // Only the worker's record is read and stored back.
 #[no_mangle]

@@ -1,6 +1,6 @@
 -- The number is that of the answer, and both slices are as the covered call leaves them. Assumes nothing.
 use mathlib.Core.Path.{_∙_, ap}
-use Rattle.host.specs.Packing.{packed-made}
+use Rattle.numbers.specs.Packing.{packed-made}
 use borrow.Author.Needs.{needs}
 use Rattle.host.proofs.fresh.pallaymi_fresh.Statement.{statement}
 use Rattle.host.proofs.fresh.pallaymi_fresh.Tie as tie

@@ -1,6 +1,6 @@
 -- The number is that of the answer, and the slices are as the covered call leaves them. Assumes nothing.
 use mathlib.Core.Path.{_∙_, ap}
-use Rattle.host.specs.Packing.{packed-ran}
+use Rattle.numbers.specs.Packing.{packed-ran}
 use borrow.Author.Needs.{needs}
 use Rattle.host.proofs.runs.pallaymi_run.Statement.{statement}
 use Rattle.host.proofs.runs.pallaymi_run.Tie as tie

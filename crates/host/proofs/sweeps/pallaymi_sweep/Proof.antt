@@ -39,10 +39,10 @@ use denote.Triple.Table.{entered, cited}
 use denote.Triple.Clauses.{ensured, lasts}
 use denote.Triple.Walked.{says, Stays, stay-none-slice, stay-none-ref, gave-slice, walkOf, AllGo, goes-none-slice, goes-none-ref, goes-gave-slice, Walks, ends-at, walked, walk-meets}
 use Rattle.catalogue.specs.Lent.{memory-of}
+use Rattle.numbers.specs.declared.kept.Kept.{Kept}
+use Rattle.numbers.proofs.kept.Kept as K
+use Rattle.numbers.proofs.kept.Kept.Laws as K′
 use Rattle.host.specs.Promised.{Sweeps}
-use Rattle.host.specs.declared.kept.Kept.{Kept}
-use Rattle.host.proofs.kept.Kept as K
-use Rattle.host.proofs.kept.Kept.Laws as K′
 use Rattle.host.proofs.sweeps.sweep_kept as kept
 use Rattle.host.proofs.sweeps.sweep_kept.Symbol as kept-def
 use Rattle.host.proofs.sweeps.sweep_kept.Symbol.{name as #host·sweep-kept}

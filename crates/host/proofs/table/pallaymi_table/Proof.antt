@@ -37,11 +37,11 @@ use denote.Triple.Spec.{Meets, tripleOf}
 use denote.Triple.Table.{entered, cited}
 use denote.Triple.Clauses.{ensured, lasts}
 use denote.Triple.Walked.{says, Stays, stay-none, stay-ref, walkOf, AllGo, goes-none, goes-ref, Walks, ends-at, walked, walk-meets}
+use Rattle.numbers.specs.declared.kept.Kept.{Kept}
+use Rattle.numbers.proofs.kept.Kept as K
+use Rattle.numbers.proofs.kept.Kept.Laws as K′
 use Rattle.host.specs.Promised.{Makes-table}
-use Rattle.host.specs.declared.kept.Kept.{Kept}
 use Rattle.host.specs.declared.table.Tabled.{Tabled}
-use Rattle.host.proofs.kept.Kept as K
-use Rattle.host.proofs.kept.Kept.Laws as K′
 use Rattle.host.proofs.table.Tabled as S
 use Rattle.host.proofs.table.Tabled.Laws as S′
 use Rattle.host.proofs.table.make_table as make

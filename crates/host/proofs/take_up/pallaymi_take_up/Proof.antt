@@ -43,15 +43,15 @@ use denote.Triple.Table.{entered, cited}
 use denote.Triple.Clauses.{ensured, lasts}
 use denote.Triple.Walked.{says, Stays, stay-none, stay-none-slice, stay-ref, walkOf, AllGo, goes-none, goes-none-slice, goes-ref, Walks, ends-at, walked, walk-meets}
 use Rattle.catalogue.specs.Lent.{memory-of}
-use Rattle.host.specs.Kept.{record-at, put-record, slot}
+use Rattle.numbers.specs.Kept.{record-at, put-record, slot}
+use Rattle.numbers.specs.declared.kept.Kept.{Kept}
+use Rattle.numbers.specs.declared.kept.Record.{Record}
+use Rattle.numbers.proofs.kept.Kept as K
+use Rattle.numbers.proofs.kept.Kept.Laws as K′
+use Rattle.numbers.proofs.kept.Record as R
+use Rattle.numbers.proofs.kept.Record.Laws as R′
 use Rattle.host.specs.Promised.{Takes-up, Takes-up-one}
-use Rattle.host.specs.declared.kept.Kept.{Kept}
-use Rattle.host.specs.declared.kept.Record.{Record}
 use Rattle.host.specs.declared.one.Moved.{Moved}
-use Rattle.host.proofs.kept.Kept as K
-use Rattle.host.proofs.kept.Kept.Laws as K′
-use Rattle.host.proofs.kept.Record as R
-use Rattle.host.proofs.kept.Record.Laws as R′
 use Rattle.host.proofs.one.Moved as S
 use Rattle.host.proofs.one.Moved.Laws as S′
 use Rattle.host.proofs.one.slot as slot-fn

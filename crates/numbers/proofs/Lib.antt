@@ -1,0 +1,4 @@
+-- Laws of places, records, tables and answers as numbers.
+pub mod Packed
+pub mod Places
+pub mod Tables
