@@ -115,18 +115,18 @@ almost-loop n = answers 2
     (three-vertices ++ (call 0 4 (pos 2) (pos 3) 9 ++ (call 0 4 (pos 3) (pos 1) 8 ++ (call 0 4 (pos 1) (pos 2) n ++ (call 1 2 (pos 3) unused 3 ++ stepped 0 2)))))
     (1 ∷ 1 ∷ 1 ∷ 1 ∷ 1 ∷ 1 ∷ 1 ∷ [])
 
+-- vertices 1 and 2, and the edge 1 to 2
+abbrev one-edge : List Choice
+one-edge = call 0 1 (pos 1) unused 1 ++ (call 0 1 (pos 2) unused 2 ++ call 0 4 (pos 1) (pos 2) 7)
+
 -- ConE asks where the edge leads, and for the mark of u: 2 was removed and added again, which leaves the old edge to the old one; then 1 goes after it was found.
 abbrev old-target : Example
 old-target = answers 1
-    (call 0 1 (pos 1) unused 1 ++ (call 0 1 (pos 2) unused 2 ++ (call 0 4 (pos 1) (pos 2) 7 ++ (call 0 2 (pos 2) unused 2 ++ (call 0 1 (pos 2) unused 3
-    ++ call 0 6 (pos 1) (pos 2) 4)))))
+    (one-edge ++ (call 0 2 (pos 2) unused 2 ++ (call 0 1 (pos 2) unused 3 ++ call 0 6 (pos 1) (pos 2) 4)))
     (1 ∷ 1 ∷ 1 ∷ 1 ∷ 1 ∷ 8 ∷ [])
 
 abbrev source-removed : Example
-source-removed = answers 2
-    (call 0 1 (pos 1) unused 1 ++ (call 0 1 (pos 2) unused 2 ++ (call 0 4 (pos 1) (pos 2) 7 ++ (call 1 6 (pos 1) (pos 2) 3 ++ (call 0 2 (pos 1) unused 1
-    ++ stepped 1 1)))))
-    (1 ∷ 1 ∷ 1 ∷ 1 ∷ 8 ∷ [])
+source-removed = answers 2 (one-edge ++ (call 1 6 (pos 1) (pos 2) 3 ++ (call 0 2 (pos 1) unused 1 ++ stepped 1 1))) (1 ∷ 1 ∷ 1 ∷ 1 ∷ 8 ∷ [])
 
 -- AddE asks for the mark of v at each look: 2 goes after it was found.
 abbrev target-removed : Example
@@ -157,7 +157,7 @@ withdrawn = prints
     "2 3 1 14\n1 5\n1 7\n4 5 7\n2 7\n0 0 0 0 0 0 0 0 0 0 1 1 1 0\n"
     "4 1 0\n2 0 1 1\n5 0 1 1\n13 1 2 1\n14 0 4 3\n5\n"
 
--- 2 to 3 leads to a removed vertex: a trial of 1 to 2 passes it, and is done two steps earlier than if it met 3.
+-- 2 to 3 leads to a removed vertex: a trial of 1 to 2 passes it, and is done a step earlier than if it met 3.
 abbrev dead-target-passed : Example
 dead-target-passed = answers 1
     (three-vertices ++ (call 0 4 (pos 2) (pos 3) 9 ++ (call 0 2 (pos 3) unused 3 ++ call 0 4 (pos 1) (pos 2) 8)))
