@@ -1,4 +1,4 @@
--- A request stepped once more comes to what it came to before; one that is answered, or has no steps left, comes to what it is. Assumes nothing.
+-- A request stepped once more comes to what it came to before; one that is answered, or has no steps left, comes to what it is.
 use Prim.Native.Nat.{ℕ, zero, suc, _-_, _<_, _≤_}
 use mathlib.Core.Bool.{true, false}
 use mathlib.Core.List.{List}

@@ -1,4 +1,4 @@
--- A count goes up by the number of the reply. Assumes nothing.
+-- A count goes up by the number of the reply.
 use Prim.Native.Nat.{ℕ}
 use mathlib.Core.Path.{_≡_}
 use borrow.Author.Tests.{ne-eqb}

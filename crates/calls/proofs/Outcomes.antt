@@ -1,4 +1,4 @@
--- The outcome of a call, by the checks on the way: what each check says of the definition. Assumes nothing.
+-- The outcome of a call, by the checks on the way: what each check says of the definition.
 use Prim.Native.Nat.{ℕ}
 use mathlib.Core.Bool.{Bool, true, false}
 use mathlib.Core.Path.{_≡_, refl, sym, _∙_, ap, ap₂}

@@ -1,4 +1,4 @@
--- One step: of a record, and of a worker of a table. Assumes nothing.
+-- One step: of a record, and of a worker of a table.
 use Prim.Native.Nat.{ℕ}
 use mathlib.Core.Bool.{true, false}
 use mathlib.Core.List.{List}

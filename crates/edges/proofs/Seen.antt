@@ -1,4 +1,4 @@
--- What was seen or is left, by the constructor that the code took it apart into; and what a decision is made of. Assumes nothing.
+-- What was seen or is left, by the constructor that the code took it apart into; and what a decision is made of.
 use Prim.Native.Nat.{ℕ}
 use mathlib.Core.Path.{_≡_, refl, sym, _∙_, ap, ap₂}
 use mir.Facts.{toZ-ofZ}

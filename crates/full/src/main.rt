@@ -7,6 +7,8 @@ use asking::print::print_listing;
 use asking::print::print_tally;
 use asking::vertices::on_vertices;
 use edges::on_edges;
+use memory::KEYS_SIZE;
+use memory::WORDS_SIZE;
 use memory::fresh::fresh;
 use sweep::sweep::sweep;
 use workers::table::idle_table;
@@ -31,10 +33,10 @@ fn sweep_and_list(keys: &[i32], words: &[u32], new_keys: &mut [i32], new_words: 
 }
 
 fn main() {
-    let mut keys = [0; 2304];
-    let mut words = [0; 4610];
-    let mut new_keys = [0; 2304];
-    let mut new_words = [0; 4610];
+    let mut keys = [0; KEYS_SIZE];
+    let mut words = [0; WORDS_SIZE];
+    let mut new_keys = [0; KEYS_SIZE];
+    let mut new_words = [0; WORDS_SIZE];
     fresh(&mut keys, &mut words);
     fill(&mut keys, &mut words);
     sweep_and_list(&keys, &words, &mut new_keys, &mut new_words);

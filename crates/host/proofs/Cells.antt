@@ -1,4 +1,4 @@
--- One record of a lent table in memory: it is taken out of the table, and it or another is put back, also as steps of a walk. At any `Given`. Assumes nothing.
+-- One record of a lent table in memory: it is taken out of the table, and it or another is put back, also as steps of a walk. At any `Given`.
 use Prim.Native.Nat.{ℕ, _+_, _<_}
 use mathlib.Core.List.{List, [], _∷_}
 use mathlib.Core.Path.{refl, sym, _∙_, subst}

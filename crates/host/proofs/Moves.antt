@@ -1,4 +1,4 @@
--- One record read and stored back is the call on the whole table: what each way out leaves, in any table that has the record. Assumes nothing.
+-- One record read and stored back is the call on the whole table: what each way out leaves, in any table that has the record.
 use Prim.Native.Nat.{ℕ, zero, suc, _<_}
 use mathlib.Core.Bool.{Bool, true, false, true≢false}
 use mathlib.Core.List.{List, [], _∷_, map}

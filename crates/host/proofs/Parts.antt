@@ -1,4 +1,4 @@
--- What the walks speak of: the machine values of a table, the parts of what a call gives, and the numbers on the way to a record. Assumes nothing.
+-- What the walks speak of: the machine values of a table, the parts of what a call gives, and the numbers on the way to a record.
 use Prim.Native.Nat.{ℕ, _+_, _*_, _<_, _^_}
 use mathlib.Core.List.{List, [], _∷_}
 use mathlib.Core.Path.{_≡_, sym}

@@ -1,4 +1,4 @@
--- The call by which a walk learns which record it reads: its contract, what the call asks, and what it says. At any `Given`. Assumes nothing.
+-- The call by which a walk learns which record it reads: its contract, what the call asks, and what it says. At any `Given`.
 use mathlib.Core.Path.{_≡_, refl}
 use Prim.Native.Nat.{ℕ, _<_, _^_}
 use mathlib.Core.List.{[], _∷_}

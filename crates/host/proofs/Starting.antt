@@ -1,4 +1,4 @@
--- Taking up by the one record, by its ways out. Assumes nothing.
+-- Taking up by the one record, by its ways out.
 use Prim.Native.Nat.{ℕ, _<_}
 use mathlib.Core.Bool.{Bool, true, false}
 use mathlib.Core.Path.{_≡_, refl, sym, _∙_, ap, ap₂}

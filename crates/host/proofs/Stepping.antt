@@ -1,4 +1,4 @@
--- A step of the one record, by its ways out. Assumes nothing.
+-- A step of the one record, by its ways out.
 use Prim.Native.Nat.{ℕ}
 use mathlib.Core.Bool.{true, false}
 use mathlib.Core.List.{List}

@@ -1,4 +1,4 @@
--- A table as it is written down: the ways out of making one of idle workers, and of a sweep that reads one. Assumes nothing.
+-- A table as it is written down: the ways out of making one of idle workers, and of a sweep that reads one.
 use Prim.Native.Nat.{ℕ}
 use mathlib.Core.Bool.{Bool, true, false}
 use mathlib.Core.List.{List}

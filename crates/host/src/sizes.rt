@@ -2,13 +2,15 @@
 ghost use mathlib.Core.Path.{_≡_};
 ghost use Rattle.catalogue.specs.Lent.{keys-size, words-size, output-size};
 ghost use Rattle.numbers.specs.Kept.{table-size};
+use memory::KEYS_SIZE;
+use memory::WORDS_SIZE;
 
 // The keys of a catalogue, in numbers of 32 bits.
 #[no_mangle]
 pub extern "C" fn pallaymi_keys_size() -> usize
     ensures { λ r. ⌜ r ≡ keys-size ⌝ }
 {
-    2304
+    KEYS_SIZE
 }
 
 // The words of a catalogue, in numbers of 32 bits.
@@ -16,7 +18,7 @@ pub extern "C" fn pallaymi_keys_size() -> usize
 pub extern "C" fn pallaymi_words_size() -> usize
     ensures { λ r. ⌜ r ≡ words-size ⌝ }
 {
-    4610
+    WORDS_SIZE
 }
 
 // An output, in bytes: at least so many.

@@ -1,4 +1,4 @@
--- What both walks speak of: the machine values of a record, of an answer and of what a step gives, and what a step leaves. Definitions. Assumes nothing.
+-- What both walks speak of: the machine values of a record, of an answer and of what a step gives, and what a step leaves. Definitions.
 use Prim.Native.Nat.{ℕ}
 use mathlib.Core.List.{List}
 use lib.IntN.{ℤ}

@@ -1,4 +1,4 @@
--- Lists of numbers with no number twice, kept and gathered; and different numbers of a range are no more than the range has. Assumes nothing.
+-- Lists of numbers with no number twice, kept and gathered; and different numbers of a range are no more than the range has.
 use Prim.Native.Nat.{ℕ, zero, suc, _+_, _<_, _≤_}
 use mathlib.Core.Bool.{Bool, true, false}
 use mathlib.Core.List.{List, [], _∷_, _++_}

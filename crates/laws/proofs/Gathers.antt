@@ -1,4 +1,4 @@
--- Lists that a function makes: a table of its values, and parts gathered one after the other. Their lengths, and where a part stands. Assumes nothing.
+-- Lists that a function makes: a table of its values, and parts gathered one after the other. Their lengths, and where a part stands.
 use Prim.Native.Nat.{ℕ, zero, suc, _+_}
 use mathlib.Core.List.{List, [], _∷_, _++_, append-assoc}
 use mathlib.Core.Path.{_≡_, refl, sym, ap, ap₂, _∙_}

@@ -1,4 +1,4 @@
--- What a whole link leads to lies in its pool. Assumes nothing.
+-- What a whole link leads to lies in its pool.
 use Prim.Native.Nat.{ℕ, _<_, _/_, _%_}
 use mathlib.Core.Bool.{Bool}
 use mathlib.Core.Path.{_≡_, subst}

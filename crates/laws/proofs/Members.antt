@@ -1,4 +1,4 @@
--- What holds of every member of a list: how it passes through the tests and the lists that the definitions make. Assumes nothing.
+-- What holds of every member of a list: how it passes through the tests and the lists that the definitions make.
 use Prim.Native.Nat.{ℕ, zero, suc, _<_, _≤_}
 use mathlib.Core.Bool.{Bool, true, false}
 use mathlib.Core.List.{List, [], _∷_, _++_, map}

@@ -1,4 +1,4 @@
--- What is in the met set after a number is added, that the sum which adds it fits its word, and that the ones of its words are its count. Assumes nothing.
+-- What is in the met set after a number is added, that the sum which adds it fits its word, and that the ones of its words are its count.
 use Prim.Native.Nat.{ℕ, zero, suc, _+_, _*_, _-_, _/_, _%_, _^_, _<_}
 use mathlib.Core.Bool.{Bool, true, false}
 use mathlib.Core.List.{List}

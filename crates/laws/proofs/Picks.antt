@@ -1,4 +1,4 @@
--- What holds of every case of a definition holds of the one that its tests and reads choose. Assumes nothing.
+-- What holds of every case of a definition holds of the one that its tests and reads choose.
 use Prim.Native.Nat.{ℕ}
 use mathlib.Core.Bool.{Bool, true, false}
 use mathlib.Core.Option.{Option, none, some}

@@ -1,4 +1,4 @@
--- Numbers that were read, or handed out, lie in their pools. Assumes nothing.
+-- Numbers that were read, or handed out, lie in their pools.
 use Prim.Native.Nat.{ℕ, _+_, _<_, _≤_, _/_, _%_}
 use mathlib.Core.Bool.{true, false}
 use mathlib.Core.Path.{_≡_, refl, sym, _∙_, subst}

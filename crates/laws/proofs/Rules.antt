@@ -1,5 +1,5 @@
 -- What `search` is handed to close a `returns` against a definition that goes by tests: the value of each test, from what the branches on the way tell.
--- Keys are signed, and reach a test or a callee through their bits: the laws here take them back. Assumes nothing.
+-- Keys are signed, and reach a test or a callee through their bits: the laws here take them back.
 use mathlib.Core.Bool.{Bool, true, false, false≢true}
 use mathlib.Core.Path.{_≡_, refl, sym, _∙_, ap, subst}
 use borrow.Author.Tests.{le-ltb, lt-ltb, le-leb, lt-leb, eq-eqb, ne-eqb, eqb-true}

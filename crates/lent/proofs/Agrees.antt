@@ -1,4 +1,4 @@
--- What is read of two catalogues that agree inside the pools is the same. Assumes nothing.
+-- What is read of two catalogues that agree inside the pools is the same.
 use Prim.Native.Nat.{ℕ, _<_}
 use mathlib.Core.Bool.{Bool, true, false}
 use mathlib.Core.Path.{_≡_, refl}

@@ -1,4 +1,4 @@
--- Taking up and a step do the same to catalogues that agree, for a table in range; so on lent memory they do what they do on its catalogue. Assumes nothing.
+-- Taking up and a step do the same to catalogues that agree, for a table in range; so on lent memory they do what they do on its catalogue.
 use Prim.Native.Nat.{ℕ}
 use mathlib.Core.Bool.{Bool, true, false}
 use mathlib.Core.Path.{_≡_, refl}

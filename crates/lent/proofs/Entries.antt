@@ -1,4 +1,4 @@
--- What holds of every member of a list holds of what is read, stored or repeated there. Assumes nothing.
+-- What holds of every member of a list holds of what is read, stored or repeated there.
 use Prim.Native.Nat.{ℕ, zero, suc}
 use mathlib.Core.List.{List, [], _∷_}
 use lib.ListN.{getD, set, replicate}

@@ -1,4 +1,4 @@
--- A listing of catalogues that agree writes the same, so a listing of lent memory is that of its catalogue. Assumes nothing.
+-- A listing of catalogues that agree writes the same, so a listing of lent memory is that of its catalogue.
 use Prim.Native.Nat.{ℕ}
 use mathlib.Core.Bool.{true}
 use mathlib.Core.List.{List, [], _∷_, map}

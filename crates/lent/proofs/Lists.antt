@@ -1,4 +1,4 @@
--- Tests that are the same for every member keep the same, and pass the same lists. Assumes nothing.
+-- Tests that are the same for every member keep the same, and pass the same lists.
 use mathlib.Core.Bool.{Bool}
 use mathlib.Core.List.{List, [], _∷_}
 use mathlib.Core.Path.{_≡_, refl}

@@ -1,4 +1,4 @@
--- The walks of catalogues that agree, and the live vertices and edges on them, are the same lists of numbers, all of them in their pools. Assumes nothing.
+-- The walks of catalogues that agree, and the live vertices and edges on them, are the same lists of numbers, all of them in their pools.
 use Prim.Native.Nat.{ℕ, _<_}
 use mathlib.Core.Bool.{Bool}
 use mathlib.Core.List.{List, map}

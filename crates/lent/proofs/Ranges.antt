@@ -1,4 +1,4 @@
--- Places, records and tables whose vertex numbers lie in the pool. Edge numbers are tested before they are used. Assumes nothing.
+-- Places, records and tables whose vertex numbers lie in the pool. Edge numbers are tested before they are used.
 use Prim.Native.Nat.{ℕ, _<_}
 use lib.Dec.{eqb}
 use lib.IntN.{ℤ}

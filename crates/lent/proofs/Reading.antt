@@ -1,4 +1,4 @@
--- One law for each read: in catalogues that agree it chooses the same case, and what it leads to lies in its pool. Assumes nothing.
+-- One law for each read: in catalogues that agree it chooses the same case, and what it leads to lies in its pool.
 use Prim.Native.Nat.{ℕ, _<_}
 use mathlib.Core.Path.{_≡_, refl, subst}
 use lib.Dec.{eqb, ltb}

@@ -1,4 +1,4 @@
--- Every choice keeps a host's memory that of the catalogue: so a run on lent memory is the run of the definitions. Assumes nothing.
+-- Every choice keeps a host's memory that of the catalogue: so a run on lent memory is the run of the definitions.
 use Prim.Native.Nat.{ℕ}
 use mathlib.Core.Bool.{Bool, true, false}
 use mathlib.Core.List.{List, [], _∷_}

@@ -1,4 +1,4 @@
--- Catalogues that agree are sound together: every test of soundness looks at nodes of the pools. Assumes nothing.
+-- Catalogues that agree are sound together: every test of soundness looks at nodes of the pools.
 use Prim.Native.Nat.{ℕ}
 use mathlib.Core.List.{_∷_}
 use mathlib.Core.Path.{_≡_, refl, ap, _∙_}

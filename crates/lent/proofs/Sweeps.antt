@@ -1,4 +1,4 @@
--- A sweep of catalogues that agree writes the same, so a sweep of lent memory is that of its catalogue. Assumes nothing.
+-- A sweep of catalogues that agree writes the same, so a sweep of lent memory is that of its catalogue.
 use Prim.Native.Nat.{ℕ}
 use mathlib.Core.Bool.{true}
 use mathlib.Core.List.{map}

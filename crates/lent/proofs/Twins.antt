@@ -1,4 +1,4 @@
--- Two definitions that go by the same tests and reads give the same, and something of which a thing holds, where that is so in every case. Assumes nothing.
+-- Two definitions that go by the same tests and reads give the same, and something of which a thing holds, where that is so in every case.
 use Prim.Native.Nat.{ℕ}
 use mathlib.Core.Bool.{Bool, true, false}
 use mathlib.Core.Path.{_≡_, refl, subst}

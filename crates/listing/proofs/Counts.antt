@@ -1,4 +1,4 @@
--- A count of what a walk keeps, by the cases of the recursion. Assumes nothing.
+-- A count of what a walk keeps, by the cases of the recursion.
 use Prim.Native.Nat.{ℕ, _+_, _*_, _-_, _≤_}
 use mathlib.Core.Bool.{Bool, true, false}
 use mathlib.Core.List.{List, [], _∷_, _++_}

@@ -1,4 +1,4 @@
--- What a walk keeps, by the cases of its recursion. Assumes nothing.
+-- What a walk keeps, by the cases of its recursion.
 use Prim.Native.Nat.{ℕ, _-_, _≤_}
 use mathlib.Core.Bool.{Bool}
 use mathlib.Core.List.{List, [], _∷_}

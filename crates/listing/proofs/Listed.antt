@@ -1,4 +1,4 @@
--- The lines of what a walk keeps, by the cases of the recursion: a node's line is put first, and the lines of the others go on behind it. Assumes nothing.
+-- The lines of what a walk keeps, by the cases of the recursion: a node's line is put first, and the lines of the others go on behind it.
 use Prim.Native.Nat.{ℕ, _+_, _*_, _-_, _≤_}
 use mathlib.Core.Bool.{Bool, true, false}
 use mathlib.Core.List.{List, [], _∷_, _++_}

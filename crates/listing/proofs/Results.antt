@@ -1,4 +1,4 @@
--- The contents line and the body behind it are the text of a listing, and what the check of soundness tells is room for both. Assumes nothing.
+-- The contents line and the body behind it are the text of a listing, and what the check of soundness tells is room for both.
 use Prim.Native.Nat.{ℕ, _+_, _*_, _≤_, _<_}
 use mathlib.Core.Bool.{Bool, true, false}
 use mathlib.Core.List.{List, [], _∷_, _++_, map}

@@ -1,4 +1,4 @@
--- A sound catalogue's result fits the output: a key of 32 bits takes at most twelve bytes, and there are at most 256 live vertices and 2,047 live edges. Assumes nothing.
+-- A sound catalogue's result fits the output: a key of 32 bits takes at most twelve bytes, and there are at most 256 live vertices and 2,047 live edges.
 use Prim.Native.Nat.{ℕ, _+_, _*_, _≤_}
 use mathlib.Core.Bool.{true}
 use mathlib.Core.List.{List, [], _∷_, _++_, map}

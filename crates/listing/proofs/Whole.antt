@@ -1,4 +1,4 @@
--- A walk from the head with the fuel of the whole pool gives the lines and the counts of a listing. Assumes nothing.
+-- A walk from the head with the fuel of the whole pool gives the lines and the counts of a listing.
 use Prim.Native.Nat.{ℕ, _+_, _*_, _≤_}
 use mathlib.Core.List.{List, [], _∷_, _++_, map, append-assoc}
 use mathlib.Core.Path.{_≡_, refl, sym, ap, _∙_}

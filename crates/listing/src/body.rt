@@ -3,7 +3,7 @@ ghost use mathlib.Core.Path.{_≡_};
 ghost use mathlib.Core.List.{_++_};
 ghost use Prim.Native.Nat.{_+_, _*_, _≤_};
 ghost use lib.ListN.{length};
-ghost use Rattle.catalogue.specs.Lent.{catalogue-in};
+ghost use Rattle.catalogue.specs.Lent.{keys-size, words-size, catalogue-in};
 ghost use Rattle.catalogue.specs.Listing.{vertex-lines, edge-lines, added-edges};
 ghost use Rattle.catalogue.specs.Live.{gather, live-vertices, live-edges-of};
 ghost use Rattle.catalogue.specs.Text.{lines};
@@ -16,7 +16,7 @@ use crate::walks::list_vertices;
 use survey::tests::next_vertex;
 
 pub fn live_vertices(words: &[u32]) -> usize
-    requires { ⌜ length (now words) ≡ 4610 ⌝ }
+    requires { ⌜ length (now words) ≡ words-size ⌝ }
     ensures { λ r. ⌜ r ≡ length (live-vertices (linked (now (words .entry)))) ⌝ }
 {
     let first = next_vertex(words, 0);
@@ -24,7 +24,7 @@ pub fn live_vertices(words: &[u32]) -> usize
 }
 
 pub fn added_edges(words: &[u32]) -> usize
-    requires { ⌜ length (now words) ≡ 4610 ⌝ }
+    requires { ⌜ length (now words) ≡ words-size ⌝ }
     ensures { λ r. ⌜ r ≡ length (added-edges (linked (now (words .entry)))) ⌝ }
 {
     let first = next_vertex(words, 0);
@@ -32,8 +32,8 @@ pub fn added_edges(words: &[u32]) -> usize
 }
 
 pub fn list_body(keys: &[i32], words: &[u32], output: &mut [u8], at: usize) -> usize
-    requires { ⌜ length (now keys) ≡ 2304 ⌝ }
-    requires { ⌜ length (now words) ≡ 4610 ⌝ }
+    requires { ⌜ length (now keys) ≡ keys-size ⌝ }
+    requires { ⌜ length (now words) ≡ words-size ⌝ }
     requires { ⌜ at + 3072 + 24 * length (gather (live-edges-of (linked (now words))) (live-vertices (linked (now words)))) ≤ length (now output) ⌝ }
     ensures { λ r. ⌜ now (output .exit) ≡ put-at (now (output .entry)) at (lines (vertex-lines (catalogue-in (now (keys .entry)) (now (words .entry))) ++ edge-lines (catalogue-in (now (keys .entry)) (now (words .entry))))) ⌝ }
     ensures { λ r. ⌜ r ≡ at + length (lines (vertex-lines (catalogue-in (now (keys .entry)) (now (words .entry))) ++ edge-lines (catalogue-in (now (keys .entry)) (now (words .entry))))) ⌝ }

@@ -9,12 +9,13 @@ ghost use Rattle.catalogue.specs.Live.{live-vertices};
 ghost use Rattle.catalogue.specs.Text.{line};
 ghost use Rattle.survey.specs.Walks.{linked};
 ghost use Rattle.text.specs.Puts.{put-at};
+ghost use Rattle.catalogue.specs.Lent.{words-size};
 use crate::body::added_edges;
 use crate::body::live_vertices;
 use text::lines::put_three;
 
 pub fn put_contents(words: &[u32], output: &mut [u8], at: usize, replies: u32) -> usize
-    requires { ⌜ length (now words) ≡ 4610 ⌝ }
+    requires { ⌜ length (now words) ≡ words-size ⌝ }
     requires { ⌜ at + 36 ≤ length (now output) ⌝ }
     ensures { λ r. ⌜ now (output .exit) ≡ put-at (now (output .entry)) at (line (pos replies ∷ (pos (length (live-vertices (linked (now (words .entry))))) ∷ (pos (length (added-edges (linked (now (words .entry))))) ∷ [])))) ⌝ }
     ensures { λ r. ⌜ r ≡ at + length (line (pos replies ∷ (pos (length (live-vertices (linked (now (words .entry))))) ∷ (pos (length (added-edges (linked (now (words .entry))))) ∷ [])))) ⌝ }

@@ -4,7 +4,7 @@ ghost use mathlib.Core.Path.{_≡_};
 ghost use Prim.Native.Nat.{_+_, _*_, _≤_};
 ghost use lib.ListN.{length};
 ghost use Rattle.catalogue.specs.Live.{gather};
-ghost use Rattle.catalogue.specs.Lent.{catalogue-in};
+ghost use Rattle.catalogue.specs.Lent.{keys-size, words-size, catalogue-in};
 ghost use Rattle.survey.specs.Walks.{linked};
 ghost use Rattle.listing.specs.Walks.{unmarked-from, added-from, live-from, added-of, live-of, vertex-text, edge-text, edges-text};
 ghost use Rattle.text.specs.Puts.{put-at};
@@ -20,7 +20,7 @@ use text::lines::put_one;
 use text::lines::put_pair;
 
 pub fn count_live_vertices(words: &[u32], x: u8, fuel: u16) -> usize
-    requires { ⌜ length (now words) ≡ 4610 ⌝ }
+    requires { ⌜ length (now words) ≡ words-size ⌝ }
     ensures { λ r. ⌜ r ≡ length (unmarked-from (linked (now (words .entry))) fuel x) ⌝ }
 {
     if fuel == 0 {
@@ -38,7 +38,7 @@ pub fn count_live_vertices(words: &[u32], x: u8, fuel: u16) -> usize
 }
 
 fn count_added(words: &[u32], e: u16, fuel: u16) -> usize
-    requires { ⌜ length (now words) ≡ 4610 ⌝ }
+    requires { ⌜ length (now words) ≡ words-size ⌝ }
     ensures { λ r. ⌜ r ≡ length (added-from (linked (now (words .entry))) fuel e) ⌝ }
 {
     if fuel == 0 {
@@ -56,7 +56,7 @@ fn count_added(words: &[u32], e: u16, fuel: u16) -> usize
 }
 
 pub fn count_added_edges(words: &[u32], x: u8, fuel: u16) -> usize
-    requires { ⌜ length (now words) ≡ 4610 ⌝ }
+    requires { ⌜ length (now words) ≡ words-size ⌝ }
     ensures { λ r. ⌜ r ≡ length (gather (added-of (linked (now (words .entry)))) (unmarked-from (linked (now (words .entry))) fuel x)) ⌝ }
 {
     if fuel == 0 {
@@ -83,8 +83,8 @@ pub fn list_vertices(
     x: u8,
     fuel: u16,
 ) -> usize
-    requires { ⌜ length (now keys) ≡ 2304 ⌝ }
-    requires { ⌜ length (now words) ≡ 4610 ⌝ }
+    requires { ⌜ length (now keys) ≡ keys-size ⌝ }
+    requires { ⌜ length (now words) ≡ words-size ⌝ }
     requires { ⌜ at + 12 * fuel ≤ length (now output) ⌝ }
     ensures { λ r. ⌜ now (output .exit) ≡ put-at (now (output .entry)) at (vertex-text (catalogue-in (now (keys .entry)) (now (words .entry))) fuel x) ⌝ }
     ensures { λ r. ⌜ r ≡ at + length (vertex-text (catalogue-in (now (keys .entry)) (now (words .entry))) fuel x) ⌝ }
@@ -114,8 +114,8 @@ fn list_edges_of(
     e: u16,
     fuel: u16,
 ) -> usize
-    requires { ⌜ length (now keys) ≡ 2304 ⌝ }
-    requires { ⌜ length (now words) ≡ 4610 ⌝ }
+    requires { ⌜ length (now keys) ≡ keys-size ⌝ }
+    requires { ⌜ length (now words) ≡ words-size ⌝ }
     requires { ⌜ at + 24 * length (live-from (linked (now words)) fuel e) ≤ length (now output) ⌝ }
     ensures { λ r. ⌜ now (output .exit) ≡ put-at (now (output .entry)) at (edge-text (catalogue-in (now (keys .entry)) (now (words .entry))) source fuel e) ⌝ }
     ensures { λ r. ⌜ r ≡ at + length (edge-text (catalogue-in (now (keys .entry)) (now (words .entry))) source fuel e) ⌝ }
@@ -144,8 +144,8 @@ pub fn list_edges(
     x: u8,
     fuel: u16,
 ) -> usize
-    requires { ⌜ length (now keys) ≡ 2304 ⌝ }
-    requires { ⌜ length (now words) ≡ 4610 ⌝ }
+    requires { ⌜ length (now keys) ≡ keys-size ⌝ }
+    requires { ⌜ length (now words) ≡ words-size ⌝ }
     requires { ⌜ at + 24 * length (gather (live-of (linked (now words))) (unmarked-from (linked (now words)) fuel x)) ≤ length (now output) ⌝ }
     ensures { λ r. ⌜ now (output .exit) ≡ put-at (now (output .entry)) at (edges-text (catalogue-in (now (keys .entry)) (now (words .entry))) fuel x) ⌝ }
     ensures { λ r. ⌜ r ≡ at + length (edges-text (catalogue-in (now (keys .entry)) (now (words .entry))) fuel x) ⌝ }

@@ -7,11 +7,13 @@ use asking::print::print_tally;
 use asking::vertices::key;
 use asking::vertices::on_vertices;
 use chains::add_chains;
+use memory::KEYS_SIZE;
+use memory::WORDS_SIZE;
 use memory::fresh::fresh;
 
 fn main() {
-    let mut keys = [0; 2304];
-    let mut words = [0; 4610];
+    let mut keys = [0; KEYS_SIZE];
+    let mut words = [0; WORDS_SIZE];
     fresh(&mut keys, &mut words);
     print_tally(on_vertices(&mut keys, &mut words, 1, 0, 1));
     // all 254 vertices are passed, then the tail is seen: 255 steps after the taking up

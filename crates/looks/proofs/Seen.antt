@@ -1,4 +1,4 @@
--- What is known by the constructor that the code took it apart into; and what a decision is made of. Assumes nothing.
+-- What is known by the constructor that the code took it apart into; and what a decision is made of.
 use Prim.Native.Nat.{ℕ}
 use mathlib.Core.Bool.{Bool, false}
 use mathlib.Core.Path.{_≡_, _∙_, ap, ap₂, sym, subst}

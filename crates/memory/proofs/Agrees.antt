@@ -1,4 +1,4 @@
--- Two catalogues that agree at every number of their pools: a catalogue and what its memory holds do; they are laid as one memory, and agree after the same write. Assumes nothing.
+-- Two catalogues that agree at every number of their pools: a catalogue and what its memory holds do; they are laid as one memory, and agree after the same write.
 use Prim.Native.Nat.{ℕ, _<_}
 use mathlib.Core.Path.{_≡_, refl, ap, _∙_}
 use lib.IntN.{ℤ}

@@ -1,5 +1,5 @@
 -- One law for each function that writes, and for each kind of write, in the shape of the facts that the code has: what the stores and the callees leave
--- is memory of the catalogue that the contract names. Assumes nothing.
+-- is memory of the catalogue that the contract names.
 use Prim.Native.Nat.{ℕ, _+_, _-_, _<_, _≤_}
 use mathlib.Core.List.{List}
 use mathlib.Core.Path.{_≡_, _∙_, ap, subst}
@@ -12,14 +12,14 @@ use Rattle.catalogue.specs.Catalogue.{Catalogue}
 use Rattle.catalogue.specs.Writes.{commit, with-vertex, with-edge}
 use Rattle.catalogue.specs.declared.writes.Write.{Write}
 use Rattle.catalogue.specs.declared.writes.Write.the-variants.{Nothing, VertexLink, NewVertex, FirstEdge, EdgeLink, NewFirst, NewEdge}
-use Rattle.catalogue.specs.Lent.{catalogue-in}
+use Rattle.catalogue.specs.Lent.{keys-size, words-size, catalogue-in}
 use Rattle.memory.specs.Memories.{Hold, Writable}
 use Rattle.memory.proofs.Laid.{view-held}
 use Rattle.memory.proofs.Stores.{vertex-linked, first-linked, edge-linked, vertex-filled, edge-filled}
 
 -- A key comes to a callee through its bits, so there it is another number, equal to it.
 module _ (key key′ : ℤ) (same : key′ ≡ key) where
-  module _ (keys keys′ : List ℤ) (words w₁ w₂ w₃ : List ℕ) (n next : ℕ) (hk : length keys ≡ 2304) (hw : length words ≡ 4610) where
+  module _ (keys keys′ : List ℤ) (words w₁ w₂ w₃ : List ℕ) (n next : ℕ) (hk : length keys ≡ keys-size) (hw : length words ≡ words-size) where
     pub fill-vertex-held : n < 256 → keys′ ≡ set keys n key′
         → w₁ ≡ set words (2 + n) (link next plain) → w₂ ≡ set w₁ (258 + n) (link edge-tail plain) → w₃ ≡ set w₂ 0 (n - 1)
         → Hold keys′ w₃ (with-vertex (catalogue-in keys words) n key next)
@@ -83,7 +83,7 @@ module _ (write : Write) where
     new-edge-committed target p tag = committed (λ k. NewEdge n k target next p tag)
 
   -- a link, or nothing
-  module _ (keys : List ℤ) (words : List ℕ) (hk : length keys ≡ 2304) (hw : length words ≡ 4610) where
+  module _ (keys : List ℤ) (words : List ℕ) (hk : length keys ≡ keys-size) (hw : length words ≡ words-size) where
     pub nothing-committed : write ≡ Nothing → Hold keys words (commit (catalogue-in keys words) write)
     unfolding commit
     nothing-committed e = rw e (view-held keys words hk hw)

@@ -1,4 +1,4 @@
--- A loop that stores one value from the front: what it keeps, and that it ends in a list of that value alone. Assumes nothing.
+-- A loop that stores one value from the front: what it keeps, and that it ends in a list of that value alone.
 use Prim.Native.Nat.{ℕ, zero, suc, _+_, _≤_, _<_}
 use mathlib.Core.List.{List, [], _∷_, _++_, append-nil}
 use mathlib.Core.Path.{_≡_, refl, ap, _∙_}

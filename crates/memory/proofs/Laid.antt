@@ -1,4 +1,4 @@
--- What stands in laid memory at each place is the field of the catalogue at its number, and a list that agrees with all fields is that memory. Assumes nothing.
+-- What stands in laid memory at each place is the field of the catalogue at its number, and a list that agrees with all fields is that memory.
 use Prim.Native.Nat.{ℕ, zero, suc, _+_, _-_, _<_, _≤_}
 use mathlib.Core.Bool.{Bool, true, false}
 use mathlib.Core.List.{List}

@@ -1,4 +1,4 @@
--- What the check of the stated sizes tells. Assumes nothing.
+-- What the check of the stated sizes tells.
 use mathlib.Core.Bool.{Bool, true}
 use mathlib.Core.List.{List}
 use mathlib.Core.Path.{_≡_, sym, _∙_}

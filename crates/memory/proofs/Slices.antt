@@ -1,4 +1,4 @@
--- The slices of keys and words that a host lends to a walk, what they own, and how long their last lists are. Definitions. Assumes nothing.
+-- The slices of keys and words that a host lends to a walk, what they own, and how long their last lists are. Definitions.
 use Prim.Native.Nat.{ℕ}
 use mathlib.Core.List.{List}
 use mathlib.Core.Path.{_≡_}

@@ -1,4 +1,4 @@
--- In memory that holds a catalogue, the store of a link leaves the catalogue with that link, and the stores of a new node leave the catalogue with the node. Assumes nothing.
+-- In memory that holds a catalogue, the store of a link leaves the catalogue with that link, and the stores of a new node leave the catalogue with the node.
 use Prim.Native.Nat.{ℕ, _+_, _-_, _<_}
 use mathlib.Core.List.{List}
 use mathlib.Core.Path.{_≡_}

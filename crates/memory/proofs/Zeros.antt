@@ -1,4 +1,4 @@
--- Memory of zeros is that of a catalogue of zeros, which the head's key and the head's link make the fresh one; and what a call for it leaves. Assumes nothing.
+-- Memory of zeros is that of a catalogue of zeros, which the head's key and the head's link make the fresh one; and what a call for it leaves.
 use Prim.Native.Nat.{ℕ, _+_, _<_}
 use mathlib.Core.Bool.{true, false}
 use mathlib.Core.List.{List}

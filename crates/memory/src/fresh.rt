@@ -3,7 +3,7 @@ ghost use mathlib.Core.Path.{_≡_};
 ghost use lib.IntN.{pos};
 ghost use lib.ListN.{length, replicate};
 ghost use Rattle.catalogue.specs.Catalogue.{fresh};
-ghost use Rattle.catalogue.specs.Lent.{memory-of};
+ghost use Rattle.catalogue.specs.Lent.{keys-size, words-size, memory-of};
 ghost use Rattle.memory.specs.Promised.{Makes-fresh};
 ghost use Rattle.memory.specs.Memories.{Hold};
 use crate::checks::sized;
@@ -34,8 +34,8 @@ fn clear_words(words: &mut [u32])
 
 // All of it is zero, but for the head's key and the head's link to the tail.
 pub fn lay_fresh(keys: &mut [i32], words: &mut [u32])
-    requires { ⌜ length (now keys) ≡ 2304 ⌝ }
-    requires { ⌜ length (now words) ≡ 4610 ⌝ }
+    requires { ⌜ length (now keys) ≡ keys-size ⌝ }
+    requires { ⌜ length (now words) ≡ words-size ⌝ }
     ensures { λ r. ⌜ Hold (now (keys .exit)) (now (words .exit)) fresh ⌝ }
 {
     clear_keys(keys);

@@ -4,7 +4,7 @@ ghost use Prim.Native.Nat.{_<_};
 ghost use lib.ListN.{length};
 ghost use Rattle.catalogue.specs.Numbers.{room};
 ghost use Rattle.catalogue.specs.Catalogue.{vertex-key-in, vertex-link-in, first-link-in, edge-key-in, edge-link-in, edge-target-in};
-ghost use Rattle.catalogue.specs.Lent.{vkeys, ekeys, vlinks, firsts, targets, elinks, vertex-count, edge-count};
+ghost use Rattle.catalogue.specs.Lent.{keys-size, words-size, vkeys, ekeys, vlinks, firsts, targets, elinks, vertex-count, edge-count};
 use catalogue::links::EdgeLink;
 use catalogue::links::Room;
 use catalogue::links::Target;
@@ -15,7 +15,7 @@ const GREATEST: i32 = 2147483647;
 
 // The tail's key is the greatest, whatever memory holds.
 pub fn vertex_key(keys: &[i32], n: u8) -> i32
-    requires { ⌜ length (now keys) ≡ 2304 ⌝ }
+    requires { ⌜ length (now keys) ≡ keys-size ⌝ }
     ensures { λ r. ⌜ r ≡ vertex-key-in (vkeys (now (keys .entry))) n ⌝ }
 {
     if n == 1 {
@@ -27,7 +27,7 @@ pub fn vertex_key(keys: &[i32], n: u8) -> i32
 
 // The tail has no mark, and its word is not read.
 pub fn vertex_link(words: &[u32], n: u8) -> VertexLink
-    requires { ⌜ length (now words) ≡ 4610 ⌝ }
+    requires { ⌜ length (now words) ≡ words-size ⌝ }
     ensures { λ r. ⌜ r ≡ vertex-link-in (vlinks (now (words .entry))) n ⌝ }
 {
     if n == 1 {
@@ -51,7 +51,7 @@ pub fn vertex_link(words: &[u32], n: u8) -> VertexLink
 
 // A first-edge link is PLAIN.
 pub fn first_link(words: &[u32], n: u8) -> EdgeLink
-    requires { ⌜ length (now words) ≡ 4610 ⌝ }
+    requires { ⌜ length (now words) ≡ words-size ⌝ }
     ensures { λ r. ⌜ r ≡ first-link-in (firsts (now (words .entry))) n ⌝ }
 {
     let at = 258 + (n as usize);
@@ -72,7 +72,7 @@ pub fn first_link(words: &[u32], n: u8) -> EdgeLink
 
 // The tail's key is the greatest, whatever memory holds.
 pub fn edge_key(keys: &[i32], n: u16) -> i32
-    requires { ⌜ length (now keys) ≡ 2304 ⌝ }
+    requires { ⌜ length (now keys) ≡ keys-size ⌝ }
     requires { ⌜ n < 2048 ⌝ }
     ensures { λ r. ⌜ r ≡ edge-key-in (ekeys (now (keys .entry))) n ⌝ }
 {
@@ -85,7 +85,7 @@ pub fn edge_key(keys: &[i32], n: u16) -> i32
 
 // An edge node's link is never PLAIN; the tail has none.
 pub fn edge_link(words: &[u32], n: u16) -> EdgeLink
-    requires { ⌜ length (now words) ≡ 4610 ⌝ }
+    requires { ⌜ length (now words) ≡ words-size ⌝ }
     ensures { λ r. ⌜ r ≡ edge-link-in (elinks (now (words .entry))) n ⌝ }
 {
     if n == 0 {
@@ -111,7 +111,7 @@ pub fn edge_link(words: &[u32], n: u16) -> EdgeLink
 }
 
 pub fn edge_target(words: &[u32], n: u16) -> Target
-    requires { ⌜ length (now words) ≡ 4610 ⌝ }
+    requires { ⌜ length (now words) ≡ words-size ⌝ }
     requires { ⌜ n < 2048 ⌝ }
     ensures { λ r. ⌜ r ≡ edge-target-in (targets (now (words .entry))) n ⌝ }
 {
@@ -125,7 +125,7 @@ pub fn edge_target(words: &[u32], n: u16) -> Target
 
 // The vertex that is handed out next.
 pub fn vertex_room(words: &[u32]) -> Room
-    requires { ⌜ length (now words) ≡ 4610 ⌝ }
+    requires { ⌜ length (now words) ≡ words-size ⌝ }
     ensures { λ r. ⌜ r ≡ room 254 2 (vertex-count (now (words .entry))) ⌝ }
 {
     let count = words[0];
@@ -142,7 +142,7 @@ pub fn vertex_room(words: &[u32]) -> Room
 
 // The edge that is handed out next.
 pub fn edge_room(words: &[u32]) -> Room
-    requires { ⌜ length (now words) ≡ 4610 ⌝ }
+    requires { ⌜ length (now words) ≡ words-size ⌝ }
     ensures { λ r. ⌜ r ≡ room 2047 1 (edge-count (now (words .entry))) ⌝ }
 {
     let count = words[1];

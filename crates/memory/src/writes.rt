@@ -4,12 +4,12 @@ ghost use Prim.Native.Nat.{_+_, _<_, _≤_};
 ghost use lib.ListN.{length, set};
 ghost use Rattle.catalogue.specs.Numbers.{link, plain};
 ghost use Rattle.catalogue.specs.Writes.{commit, with-vertex, with-edge};
-ghost use Rattle.catalogue.specs.Lent.{catalogue-in};
+ghost use Rattle.catalogue.specs.Lent.{keys-size, words-size, catalogue-in};
 ghost use Rattle.memory.specs.Memories.{Hold, Writable};
 use catalogue::writes::Write;
 
 pub fn put_vertex_key(keys: &mut [i32], n: u8, key: i32)
-    requires { ⌜ length (now keys) ≡ 2304 ⌝ }
+    requires { ⌜ length (now keys) ≡ keys-size ⌝ }
     ensures { λ r. ⌜ now (keys .exit) ≡ set (now (keys .entry)) n key ⌝ }
 {
     let at = n as usize;
@@ -17,7 +17,7 @@ pub fn put_vertex_key(keys: &mut [i32], n: u8, key: i32)
 }
 
 pub fn put_vertex_link(words: &mut [u32], n: u8, next: u8, tag: u8)
-    requires { ⌜ length (now words) ≡ 4610 ⌝ }
+    requires { ⌜ length (now words) ≡ words-size ⌝ }
     ensures { λ r. ⌜ now (words .exit) ≡ set (now (words .entry)) (2 + n) (link next tag) ⌝ }
 {
     let at = 2 + (n as usize);
@@ -25,7 +25,7 @@ pub fn put_vertex_link(words: &mut [u32], n: u8, next: u8, tag: u8)
 }
 
 fn put_first_link(words: &mut [u32], n: u8, next: u16)
-    requires { ⌜ length (now words) ≡ 4610 ⌝ }
+    requires { ⌜ length (now words) ≡ words-size ⌝ }
     ensures { λ r. ⌜ now (words .exit) ≡ set (now (words .entry)) (258 + n) (link next plain) ⌝ }
 {
     let at = 258 + (n as usize);
@@ -33,14 +33,14 @@ fn put_first_link(words: &mut [u32], n: u8, next: u16)
 }
 
 fn put_vertex_count(words: &mut [u32], count: u8)
-    requires { ⌜ length (now words) ≡ 4610 ⌝ }
+    requires { ⌜ length (now words) ≡ words-size ⌝ }
     ensures { λ r. ⌜ now (words .exit) ≡ set (now (words .entry)) 0 count ⌝ }
 {
     words[0] = count as u32;
 }
 
 fn put_edge_key(keys: &mut [i32], n: u16, key: i32)
-    requires { ⌜ length (now keys) ≡ 2304 ⌝ }
+    requires { ⌜ length (now keys) ≡ keys-size ⌝ }
     requires { ⌜ n < 2048 ⌝ }
     ensures { λ r. ⌜ now (keys .exit) ≡ set (now (keys .entry)) (256 + n) key ⌝ }
 {
@@ -49,7 +49,7 @@ fn put_edge_key(keys: &mut [i32], n: u16, key: i32)
 }
 
 fn put_edge_target(words: &mut [u32], n: u16, target: u8)
-    requires { ⌜ length (now words) ≡ 4610 ⌝ }
+    requires { ⌜ length (now words) ≡ words-size ⌝ }
     requires { ⌜ n < 2048 ⌝ }
     ensures { λ r. ⌜ now (words .exit) ≡ set (now (words .entry)) (514 + n) target ⌝ }
 {
@@ -58,7 +58,7 @@ fn put_edge_target(words: &mut [u32], n: u16, target: u8)
 }
 
 fn put_edge_link(words: &mut [u32], n: u16, next: u16, tag: u8)
-    requires { ⌜ length (now words) ≡ 4610 ⌝ }
+    requires { ⌜ length (now words) ≡ words-size ⌝ }
     requires { ⌜ n < 2048 ⌝ }
     ensures { λ r. ⌜ now (words .exit) ≡ set (now (words .entry)) (2562 + n) (link next tag) ⌝ }
 {
@@ -67,7 +67,7 @@ fn put_edge_link(words: &mut [u32], n: u16, next: u16, tag: u8)
 }
 
 fn put_edge_count(words: &mut [u32], count: u16)
-    requires { ⌜ length (now words) ≡ 4610 ⌝ }
+    requires { ⌜ length (now words) ≡ words-size ⌝ }
     ensures { λ r. ⌜ now (words .exit) ≡ set (now (words .entry)) 1 count ⌝ }
 {
     words[1] = count as u32;
@@ -75,8 +75,8 @@ fn put_edge_count(words: &mut [u32], count: u16)
 
 // A new vertex has no edges. It is filled, then counted; in a catalogue that steps have made no link leads to it yet.
 fn fill_vertex(keys: &mut [i32], words: &mut [u32], n: u8, key: i32, next: u8)
-    requires { ⌜ length (now keys) ≡ 2304 ⌝ }
-    requires { ⌜ length (now words) ≡ 4610 ⌝ }
+    requires { ⌜ length (now keys) ≡ keys-size ⌝ }
+    requires { ⌜ length (now words) ≡ words-size ⌝ }
     requires { ⌜ 2 ≤ n ⌝ }
     ensures { λ r. ⌜ Hold (now (keys .exit)) (now (words .exit)) (with-vertex (catalogue-in (now (keys .entry)) (now (words .entry))) n key next) ⌝ }
 {
@@ -88,8 +88,8 @@ fn fill_vertex(keys: &mut [i32], words: &mut [u32], n: u8, key: i32, next: u8)
 
 // A new edge is on trial. It is filled, then counted; in a catalogue that steps have made no link leads to it yet.
 fn fill_edge(keys: &mut [i32], words: &mut [u32], n: u16, key: i32, target: u8, next: u16)
-    requires { ⌜ length (now keys) ≡ 2304 ⌝ }
-    requires { ⌜ length (now words) ≡ 4610 ⌝ }
+    requires { ⌜ length (now keys) ≡ keys-size ⌝ }
+    requires { ⌜ length (now words) ≡ words-size ⌝ }
     requires { ⌜ n < 2048 ⌝ }
     ensures { λ r. ⌜ Hold (now (keys .exit)) (now (words .exit)) (with-edge (catalogue-in (now (keys .entry)) (now (words .entry))) n key target next) ⌝ }
 {
@@ -101,8 +101,8 @@ fn fill_edge(keys: &mut [i32], words: &mut [u32], n: u16, key: i32, target: u8, 
 
 // The link that leads to the new node is the last store; where p is that node, it wins.
 fn new_vertex(keys: &mut [i32], words: &mut [u32], n: u8, key: i32, next: u8, p: u8)
-    requires { ⌜ length (now keys) ≡ 2304 ⌝ }
-    requires { ⌜ length (now words) ≡ 4610 ⌝ }
+    requires { ⌜ length (now keys) ≡ keys-size ⌝ }
+    requires { ⌜ length (now words) ≡ words-size ⌝ }
     requires { ⌜ 2 ≤ n ⌝ }
     ensures { λ r. ⌜ Hold (now (keys .exit)) (now (words .exit)) (commit (catalogue-in (now (keys .entry)) (now (words .entry))) (Write.NewVertex n key next p)) ⌝ }
 {
@@ -111,8 +111,8 @@ fn new_vertex(keys: &mut [i32], words: &mut [u32], n: u8, key: i32, next: u8, p:
 }
 
 fn new_first(keys: &mut [i32], words: &mut [u32], n: u16, key: i32, target: u8, next: u16, u: u8)
-    requires { ⌜ length (now keys) ≡ 2304 ⌝ }
-    requires { ⌜ length (now words) ≡ 4610 ⌝ }
+    requires { ⌜ length (now keys) ≡ keys-size ⌝ }
+    requires { ⌜ length (now words) ≡ words-size ⌝ }
     requires { ⌜ n < 2048 ⌝ }
     ensures { λ r. ⌜ Hold (now (keys .exit)) (now (words .exit)) (commit (catalogue-in (now (keys .entry)) (now (words .entry))) (Write.NewFirst n key target next u)) ⌝ }
 {
@@ -131,8 +131,8 @@ fn new_edge(
     p: u16,
     tag: u8,
 )
-    requires { ⌜ length (now keys) ≡ 2304 ⌝ }
-    requires { ⌜ length (now words) ≡ 4610 ⌝ }
+    requires { ⌜ length (now keys) ≡ keys-size ⌝ }
+    requires { ⌜ length (now words) ≡ words-size ⌝ }
     requires { ⌜ (n < 2048) × (p < 2048) ⌝ }
     ensures { λ r. ⌜ Hold (now (keys .exit)) (now (words .exit)) (commit (catalogue-in (now (keys .entry)) (now (words .entry))) (Write.NewEdge n key target next p tag)) ⌝ }
 {
@@ -141,8 +141,8 @@ fn new_edge(
 }
 
 pub fn commit(keys: &mut [i32], words: &mut [u32], write: Write)
-    requires { ⌜ length (now keys) ≡ 2304 ⌝ }
-    requires { ⌜ length (now words) ≡ 4610 ⌝ }
+    requires { ⌜ length (now keys) ≡ keys-size ⌝ }
+    requires { ⌜ length (now words) ≡ words-size ⌝ }
     requires { ⌜ Writable write ⌝ }
     ensures { λ r. ⌜ Hold (now (keys .exit)) (now (words .exit)) (commit (catalogue-in (now (keys .entry)) (now (words .entry))) write) ⌝ }
 {

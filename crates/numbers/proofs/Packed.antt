@@ -1,4 +1,4 @@
--- An answer as one number, by the constructor that the code took it apart into. Assumes nothing.
+-- An answer as one number, by the constructor that the code took it apart into.
 use Prim.Native.Nat.{ℕ, _+_, _*_}
 use mathlib.Core.Path.{_≡_, sym, _∙_, ap}
 use native.Mathlib.Omega.{arith}

@@ -1,4 +1,4 @@
--- A place written down, by the constructor that the code took it apart into; and that what is read back is what was written. Assumes nothing.
+-- A place written down, by the constructor that the code took it apart into; and that what is read back is what was written.
 use Prim.Native.Nat.{ℕ}
 use mathlib.Core.Path.{_≡_, refl, sym, _∙_, ap, ap₂}
 use mir.Facts.{toZ-ofZ}

@@ -1,4 +1,4 @@
--- A table of numbers: its size, that it has eight records, and all of them read back. Assumes nothing.
+-- A table of numbers: its size, that it has eight records, and all of them read back.
 use Prim.Native.Nat.{ℕ, zero, suc}
 use mathlib.Core.List.{List, [], _∷_, map}
 use mathlib.Core.Path.{_≡_, refl, sym, _∙_, ap}

@@ -1,4 +1,4 @@
--- Every promise is kept: each has its proof, in the file named. Assumes nothing.
+-- Every promise is kept: each has its proof, in the file named.
 use Rattle.promises.specs.Promises.{Promises}
 use Rattle.promises.proofs.Runs.Course.{no-loop, never-torn, sound-at-rest}
 use Rattle.promises.proofs.Runs.Accepted.{scripts-played}

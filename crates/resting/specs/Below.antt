@@ -1,4 +1,4 @@
--- Why `swept-sound` asks that the head's key is not below the least: a sound catalogue whose sweep is not sound. Assumes nothing.
+-- Why `swept-sound` asks that the head's key is not below the least: a sound catalogue whose sweep is not sound.
 use mathlib.Core.Bool.{true, false}
 use mathlib.Core.Path.{_≡_, refl}
 use lib.IntN.{pos, negsuc}

@@ -1,4 +1,4 @@
--- The edges of one source stand together in a list of swept edges: from the first of them, each leads to the next, and the last to the tail. Assumes nothing.
+-- The edges of one source stand together in a list of swept edges: from the first of them, each leads to the next, and the last to the tail.
 use Prim.Native.Nat.{ℕ, suc, _+_, _-_, _<_, _≤_}
 use mathlib.Core.Bool.{Bool, true, false}
 use mathlib.Core.List.{List, [], _∷_, _++_}

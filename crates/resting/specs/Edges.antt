@@ -1,4 +1,4 @@
--- The edges of a live vertex of a sound catalogue: their keys rise to the greatest, and each live one leads to a live vertex of its key. Assumes nothing.
+-- The edges of a live vertex of a sound catalogue: their keys rise to the greatest, and each live one leads to a live vertex of its key.
 use Prim.Native.Nat.{ℕ, _+_, _<_, _≤_}
 use mathlib.Core.Bool.{true, false}
 use mathlib.Core.List.{List, _∷_, map}

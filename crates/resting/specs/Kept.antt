@@ -1,4 +1,4 @@
--- What a sweep keeps and what it leaves behind, for every sound catalogue: a sweep asks `sound sweep C`, and `sound listing C` is enough. Assumes nothing.
+-- What a sweep keeps and what it leaves behind, for every sound catalogue: a sweep asks `sound sweep C`, and `sound listing C` is enough.
 use Prim.Native.Nat.{ℕ, _+_, _≤_}
 use mathlib.Core.Bool.{true}
 use mathlib.Core.List.{List, [], _∷_, _++_, map}

@@ -1,4 +1,4 @@
--- The lines that a listing has for a swept catalogue are those of the catalogue before. Assumes nothing.
+-- The lines that a listing has for a swept catalogue are those of the catalogue before.
 use Prim.Native.Nat.{ℕ, _+_}
 use mathlib.Core.Bool.{true}
 use mathlib.Core.List.{List, [], _∷_, _++_, map, map-map}

@@ -1,4 +1,4 @@
--- A link made and read again. Assumes nothing.
+-- A link made and read again.
 use Prim.Native.Nat.{ℕ, _/_, _%_, _<_}
 use mathlib.Core.Bool.{Bool, true}
 use mathlib.Core.Path.{_≡_, refl}

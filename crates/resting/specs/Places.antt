@@ -1,4 +1,4 @@
--- The new number of a vertex in a sweep: its place in the list, which no other member has. Assumes nothing.
+-- The new number of a vertex in a sweep: its place in the list, which no other member has.
 use Prim.Native.Nat.{ℕ, suc, _+_, _≤_, _<_}
 use mathlib.Core.Bool.{Bool, true, false}
 use mathlib.Core.List.{List, [], _∷_, _++_, map}

@@ -1,4 +1,4 @@
--- What is read in a swept catalogue at the numbers that the sweep gave out. Assumes nothing.
+-- What is read in a swept catalogue at the numbers that the sweep gave out.
 use Prim.Native.Nat.{ℕ, suc, _+_, _<_, _≤_}
 use mathlib.Core.Path.{_≡_, refl}
 use native.Mathlib.Omega.{arith}

@@ -1,4 +1,4 @@
--- A swept catalogue is sound, where no key of the catalogue before is below the least. Assumes nothing.
+-- A swept catalogue is sound, where no key of the catalogue before is below the least.
 use Prim.Native.Nat.{ℕ, suc, _+_, _<_, _≤_}
 use mathlib.Core.Bool.{Bool, true, false}
 use mathlib.Core.List.{List, _∷_, _++_, map}

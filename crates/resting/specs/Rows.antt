@@ -1,4 +1,4 @@
--- Numbers in a row: what stands at each, a walk over them, and a list whose members they number. Assumes nothing.
+-- Numbers in a row: what stands at each, a walk over them, and a list whose members they number.
 use Prim.Native.Nat.{ℕ, zero, suc, _+_, _≤_, _<_}
 use mathlib.Core.Bool.{true}
 use mathlib.Core.List.{List, [], _∷_, _++_, map}

@@ -1,4 +1,4 @@
--- The vertices of a swept catalogue are the numbers from 2 on, none of them marked. Assumes nothing.
+-- The vertices of a swept catalogue are the numbers from 2 on, none of them marked.
 use Prim.Native.Nat.{ℕ, suc, _+_, _<_, _≤_}
 use mathlib.Core.Bool.{true, false}
 use mathlib.Core.List.{List, _∷_, _++_, map}

@@ -1,4 +1,4 @@
--- The share of one live vertex among the swept edges: its edges stand in a row, and no other edge has its source. Assumes nothing.
+-- The share of one live vertex among the swept edges: its edges stand in a row, and no other edge has its source.
 use Prim.Native.Nat.{ℕ, suc, _+_, _<_, _≤_}
 use mathlib.Core.Bool.{true}
 use mathlib.Core.List.{List, _∷_, _++_, map, map-map, map-append}

@@ -1,4 +1,4 @@
--- What soundness tells of each vertex and of each edge, as the order of keys and as members of lists. Assumes nothing.
+-- What soundness tells of each vertex and of each edge, as the order of keys and as members of lists.
 use Prim.Native.Nat.{ℕ, _≤_}
 use mathlib.Core.Bool.{Bool, true, false}
 use mathlib.Core.List.{_∷_}

@@ -1,4 +1,4 @@
--- Every edge number that a sweep gave out stands once, in the list of one vertex. Assumes nothing.
+-- Every edge number that a sweep gave out stands once, in the list of one vertex.
 use Prim.Native.Nat.{ℕ, suc, _+_, _<_, _≤_}
 use mathlib.Core.Bool.{Bool, true, false}
 use mathlib.Core.List.{List, [], _∷_, _++_}

@@ -1,4 +1,4 @@
--- The edges of a swept catalogue lead to its vertices, and all of them are live. Assumes nothing.
+-- The edges of a swept catalogue lead to its vertices, and all of them are live.
 use Prim.Native.Nat.{ℕ, zero, suc, _+_, _<_, _≤_}
 use mathlib.Core.Bool.{true, false}
 use mathlib.Core.List.{List, _∷_, _++_}

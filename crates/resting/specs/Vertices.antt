@@ -1,4 +1,4 @@
--- The vertices of a sound catalogue: their keys rise to the greatest, so they differ and fit their pool. Assumes nothing.
+-- The vertices of a sound catalogue: their keys rise to the greatest, so they differ and fit their pool.
 use Prim.Native.Nat.{ℕ, zero, suc, _<_, _≤_}
 use mathlib.Core.Bool.{true}
 use mathlib.Core.List.{_∷_, map}

@@ -4,6 +4,8 @@ use asking::perform::perform;
 use asking::print::print_line;
 use asking::print::print_tally;
 use asking::vertices::on_vertices;
+use memory::KEYS_SIZE;
+use memory::WORDS_SIZE;
 use memory::fresh::fresh;
 use sweep::sweep::sweep;
 use workers::table::idle_table;
@@ -14,8 +16,8 @@ fn ask(keys: &mut [i32], words: &mut [u32], code: u32, k: i32) {
 }
 
 fn main() {
-    let mut keys = [0; 2304];
-    let mut words = [0; 4610];
+    let mut keys = [0; KEYS_SIZE];
+    let mut words = [0; WORDS_SIZE];
     fresh(&mut keys, &mut words);
     print_tally(on_vertices(&mut keys, &mut words, 1, 0, 1));
     // one more than fit; then one that is there
@@ -25,8 +27,8 @@ fn main() {
     ask(&mut keys, &mut words, 2, 0);
     ask(&mut keys, &mut words, 1, 254);
     // a sweep leaves it behind
-    let mut new_keys = [0; 2304];
-    let mut new_words = [0; 4610];
+    let mut new_keys = [0; KEYS_SIZE];
+    let mut new_words = [0; WORDS_SIZE];
     let made = sweep(&keys, &words, &mut new_keys, &mut new_words, idle_table(1));
     print_line(made_number(made) as u32);
     ask(&mut new_keys, &mut new_words, 1, 254);

@@ -1,4 +1,4 @@
--- Laws of function update, of tests on numbers and of the order of ℤ. Assumes nothing.
+-- Laws of function update, of tests on numbers and of the order of ℤ.
 use Prim.Native.Nat.{ℕ, _<_}
 use mathlib.Core.Bool.{Bool, true}
 use mathlib.Core.Path.{_≡_, refl, ap, _∙_}

@@ -1,4 +1,4 @@
--- Tests and what they say: of keys, and of two tests at once. Assumes nothing.
+-- Tests and what they say: of keys, and of two tests at once.
 use mathlib.Core.Bool.{Bool, true, false, cond, not, _&&_, _||_}
 use mathlib.Core.Path.{_≡_, refl, sym}
 use mathlib.Core.Logic.{_⊎_, inl, inr}

@@ -1,4 +1,4 @@
--- What bounds a run: no more replies come than there are requests, and each has a line of at most 11 bytes. Assumes nothing.
+-- What bounds a run: no more replies come than there are requests, and each has a line of at most 11 bytes.
 use Prim.Native.Nat.{ℕ, suc, _+_, _*_, _≤_, _<_}
 use mathlib.Core.Bool.{true, false}
 use mathlib.Core.List.{List, [], _∷_, _++_, append-assoc, append-nil}

@@ -1,4 +1,4 @@
--- What stands at the start of an output after the word of a refusal and the number of a line were put there. Assumes nothing.
+-- What stands at the start of an output after the word of a refusal and the number of a line were put there.
 use Prim.Native.Nat.{ℕ, _+_, _≤_}
 use mathlib.Core.List.{List, [], _∷_, _++_}
 use mathlib.Core.Path.{_≡_, refl, sym, ap, _∙_}

@@ -1,4 +1,4 @@
--- What a step and a taking up do to the table: it stays as long, and a reply is given by who owed it. Assumes nothing.
+-- What a step and a taking up do to the table: it stays as long, and a reply is given by who owed it.
 use Prim.Native.Nat.{ℕ, _+_, _≤_, _<_}
 use mathlib.Core.Bool.{true, false}
 use mathlib.Core.List.{List, []}

@@ -1,4 +1,4 @@
--- How many replies can still come: a worker owes one for each request that it has left, and one if it is busy. Assumes nothing.
+-- How many replies can still come: a worker owes one for each request that it has left, and one if it is busy.
 use Prim.Native.Nat.{ℕ, zero, suc, _+_, _≤_, _<_}
 use mathlib.Core.List.{List, [], _∷_}
 use mathlib.Core.Path.{_≡_}

@@ -1,4 +1,4 @@
--- The loop of a run: what is left of the schedule, played from what the code stands for, is the whole run. Assumes nothing.
+-- The loop of a run: what is left of the schedule, played from what the code stands for, is the whole run.
 use Prim.Native.Nat.{ℕ, suc, _+_, _-_, _≤_, _<_}
 use mathlib.Core.Bool.{true}
 use mathlib.Core.List.{List, [], _∷_}

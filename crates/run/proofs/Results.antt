@@ -1,4 +1,4 @@
--- A script's run leaves a sound catalogue, so that its result can be printed, and what is printed is the result of the definition. Assumes nothing.
+-- A script's run leaves a sound catalogue, so that its result can be printed, and what is printed is the result of the definition.
 use Prim.Native.Nat.{ℕ, _≤_, _<_}
 use mathlib.Core.Bool.{true, false}
 use mathlib.Core.List.{List}

@@ -1,4 +1,4 @@
--- An idle worker takes up the request that stands where its cursor is, and the cursor goes on behind it. Assumes nothing.
+-- An idle worker takes up the request that stands where its cursor is, and the cursor goes on behind it.
 use Prim.Native.Nat.{ℕ, zero, suc, _-_, _≤_, _<_}
 use mathlib.Core.Bool.{false}
 use mathlib.Core.List.{List, [], _∷_}

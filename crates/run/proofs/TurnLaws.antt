@@ -1,4 +1,4 @@
--- The ways through a turn on lent memory: the answer of a step is told, or the next request is taken up. Assumes nothing.
+-- The ways through a turn on lent memory: the answer of a step is told, or the next request is taken up.
 use Prim.Native.Nat.{ℕ, _+_, _-_}
 use mathlib.Core.Bool.{Bool, true, false}
 use mathlib.Core.List.{List}

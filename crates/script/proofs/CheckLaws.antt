@@ -1,4 +1,4 @@
--- The schedule ends the text, or the check ends with the line that is bad. Assumes nothing.
+-- The schedule ends the text, or the check ends with the line that is bad.
 use Prim.Native.Nat.{ℕ, _+_, _≤_, _<_}
 use mathlib.Core.List.{List}
 use mathlib.Core.Path.{_≡_, sym, _∙_}

@@ -1,4 +1,4 @@
--- The words of a header, read one after the other: each number joins the counts before it, and the one behind all counts ends the line. Assumes nothing.
+-- The words of a header, read one after the other: each number joins the counts before it, and the one behind all counts ends the line.
 use Prim.Native.Nat.{ℕ, _+_, _-_, _≤_, _<_}
 use mathlib.Core.Bool.{false}
 use mathlib.Core.List.{List, [], _∷_, _++_, append-assoc}

@@ -1,4 +1,4 @@
--- How a run reads on from the positions that a check gives: one request or one turn is read, and the others stand behind it. Assumes nothing.
+-- How a run reads on from the positions that a check gives: one request or one turn is read, and the others stand behind it.
 use Prim.Native.Nat.{ℕ, zero, suc, _<_}
 use mathlib.Core.List.{List, [], _∷_}
 use mathlib.Core.Path.{_≡_, refl, ap, _∙_}

@@ -1,4 +1,4 @@
--- A heading that was found good is the header of the text, and its numbers are within their bounds. Assumes nothing.
+-- A heading that was found good is the header of the text, and its numbers are within their bounds.
 use Prim.Native.Nat.{ℕ, _≤_}
 use mathlib.Core.Bool.{true}
 use mathlib.Core.List.{List, [], _∷_}

@@ -1,4 +1,4 @@
--- A header is the number of workers and so many counts, and then one number; each word that is read joins the counts. Assumes nothing.
+-- A header is the number of workers and so many counts, and then one number; each word that is read joins the counts.
 use Prim.Native.Nat.{ℕ, suc, _+_, _≤_, _<_}
 use mathlib.Core.Bool.{true, false}
 use mathlib.Core.List.{List, [], _∷_, _++_}

@@ -1,4 +1,4 @@
--- The first number of a header is the number of workers, and the words behind it are the counts and the length of the schedule. Assumes nothing.
+-- The first number of a header is the number of workers, and the words behind it are the counts and the length of the schedule.
 use Prim.Native.Nat.{ℕ, _≤_, _<_}
 use mathlib.Core.Bool.{false}
 use mathlib.Core.List.{List, [], _∷_}

@@ -1,4 +1,4 @@
--- The result of a reader of numbers or keys is made of one item alone: the one that stands in the text. Assumes nothing.
+-- The result of a reader of numbers or keys is made of one item alone: the one that stands in the text.
 use Prim.Native.Nat.{ℕ}
 use mathlib.Core.Bool.{Bool, true, false}
 use mathlib.Core.List.{List}

@@ -1,4 +1,4 @@
--- A key is the number at its position or, where a minus stands there, the opposite of the one behind it. Assumes nothing.
+-- A key is the number at its position or, where a minus stands there, the opposite of the one behind it.
 use Prim.Native.Nat.{ℕ, zero, suc, _+_, _≤_, _<_}
 use mathlib.Core.Bool.{Bool, true, false}
 use mathlib.Core.List.{List, _∷_}

@@ -1,4 +1,4 @@
--- The keys behind a code: each that is read joins those before it, and one that does not fit, or one too many, makes the line bad. Assumes nothing.
+-- The keys behind a code: each that is read joins those before it, and one that does not fit, or one too many, makes the line bad.
 use Prim.Native.Nat.{ℕ}
 use mathlib.Core.Bool.{true, false}
 use mathlib.Core.List.{List, [], _∷_}

@@ -1,4 +1,4 @@
--- A line is read word by word: its first word is the next one of the text, and what follows a space is read as a line again. Assumes nothing.
+-- A line is read word by word: its first word is the next one of the text, and what follows a space is read as a line again.
 use Prim.Native.Nat.{ℕ, suc, _+_}
 use mathlib.Core.Bool.{Bool, true, false}
 use mathlib.Core.List.{List, [], _∷_}

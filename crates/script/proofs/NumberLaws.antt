@@ -1,4 +1,4 @@
--- A number is read byte by byte: each byte at a position decides, or leaves the same question for the next position. Assumes nothing.
+-- A number is read byte by byte: each byte at a position decides, or leaves the same question for the next position.
 use Prim.Native.Nat.{ℕ, _+_, _*_, _-_, _≤_, _<_}
 use mathlib.Core.Bool.{true, false}
 use mathlib.Core.List.{List, [], _∷_}

@@ -1,4 +1,4 @@
--- Reading from positions in a text is reading what is left of it, for one line and for request lines. Assumes nothing.
+-- Reading from positions in a text is reading what is left of it, for one line and for request lines.
 use Prim.Native.Nat.{ℕ, zero, suc, _+_}
 use mathlib.Core.List.{List, [], _∷_, _++_}
 use mathlib.Core.Option.{Option, none, some}

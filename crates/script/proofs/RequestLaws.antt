@@ -1,4 +1,4 @@
--- A request line is its code, and by the code one key or two: each word that is read leaves the same question for the words behind it. Assumes nothing.
+-- A request line is its code, and by the code one key or two: each word that is read leaves the same question for the words behind it.
 use Prim.Native.Nat.{ℕ, _≤_, _<_}
 use mathlib.Core.Bool.{true, false}
 use mathlib.Core.List.{List, [], _∷_}

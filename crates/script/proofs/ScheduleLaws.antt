@@ -1,4 +1,4 @@
--- A schedule of some turns goes by its words; one of no turns is an empty line, at whose position the line's end stands. Assumes nothing.
+-- A schedule of some turns goes by its words; one of no turns is an empty line, at whose position the line's end stands.
 use Prim.Native.Nat.{ℕ, suc, _+_, _≤_, _<_}
 use mathlib.Core.List.{List, [], _∷_}
 use mathlib.Core.Option.{Option, none, some}

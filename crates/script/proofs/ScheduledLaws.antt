@@ -1,4 +1,4 @@
--- A schedule of some turns is one number and the schedule of the turns left, down to the last one, behind which the line ends. Assumes nothing.
+-- A schedule of some turns is one number and the schedule of the turns left, down to the last one, behind which the line ends.
 use Prim.Native.Nat.{ℕ, suc, _+_, _≤_, _<_}
 use mathlib.Core.Bool.{Bool, true, false}
 use mathlib.Core.List.{List, [], _∷_}

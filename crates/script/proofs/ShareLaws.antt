@@ -1,4 +1,4 @@
--- Request lines that were read leave the same question for those behind them, and the first line of each worker joins those of the workers before. Assumes nothing.
+-- Request lines that were read leave the same question for those behind them, and the first line of each worker joins those of the workers before.
 use Prim.Native.Nat.{ℕ, suc, _+_, _-_, _≤_, _<_}
 use mathlib.Core.List.{List, [], _∷_, _++_, append-assoc, append-nil}
 use mathlib.Core.Path.{_≡_, refl, sym, ap, _∙_}

@@ -1,4 +1,4 @@
--- The lines of all workers are their sum of request lines, and each worker's share is what stands from its start on. Assumes nothing.
+-- The lines of all workers are their sum of request lines, and each worker's share is what stands from its start on.
 use Prim.Native.Nat.{ℕ, _+_}
 use mathlib.Core.List.{List, [], _∷_, _++_}
 use mathlib.Core.Path.{_≡_, refl, sym, ap, _∙_}

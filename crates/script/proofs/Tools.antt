@@ -1,4 +1,4 @@
--- Small laws of tests, options and lists of words that the proofs of all lines use. Assumes nothing.
+-- Small laws of tests, options and lists of words that the proofs of all lines use.
 use Prim.Native.Nat.{ℕ}
 use mathlib.Core.Bool.{Bool, true, false}
 use mathlib.Core.List.{List, [], _∷_}

@@ -1,4 +1,4 @@
--- The loop over the turns keeps what is left of the schedule: each turn that others follow leaves one turn less. Assumes nothing.
+-- The loop over the turns keeps what is left of the schedule: each turn that others follow leaves one turn less.
 use Prim.Native.Nat.{ℕ, suc, _-_, _≤_, _<_}
 use mathlib.Core.Bool.{Bool, true, false}
 use mathlib.Core.List.{List, [], _∷_}

@@ -1,4 +1,4 @@
--- The numbers of a schedule are the turns that are read one after the other from where its line begins, and all are numbers of workers. Assumes nothing.
+-- The numbers of a schedule are the turns that are read one after the other from where its line begins, and all are numbers of workers.
 use Prim.Native.Nat.{ℕ, zero, suc, _≤_}
 use mathlib.Core.Bool.{true}
 use mathlib.Core.List.{List, [], _∷_}

@@ -1,4 +1,4 @@
--- Each way through the check ends where the definition does: with the same bad line, or with the script that the positions give. Assumes nothing.
+-- Each way through the check ends where the definition does: with the same bad line, or with the script that the positions give.
 use Prim.Native.Nat.{ℕ, _+_, _≤_, _<_}
 use mathlib.Core.Bool.{Bool, true, false}
 use mathlib.Core.List.{List, [], _∷_}

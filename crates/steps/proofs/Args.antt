@@ -1,4 +1,4 @@
--- Keys passed on to a callee mean the same there, definition by definition: a signed argument reaches it through its bits. Assumes nothing.
+-- Keys passed on to a callee mean the same there, definition by definition: a signed argument reaches it through its bits.
 use Prim.Native.Nat.{ℕ}
 use mathlib.Core.List.{List}
 use mathlib.Core.Path.{_≡_}

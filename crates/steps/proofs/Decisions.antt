@@ -1,4 +1,4 @@
--- A step by its place, and a decision by its case. Assumes nothing.
+-- A step by its place, and a decision by its case.
 use Prim.Native.Nat.{ℕ, _<_}
 use mathlib.Core.Bool.{Bool, false}
 use mathlib.Core.List.{List}

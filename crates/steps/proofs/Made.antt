@@ -1,4 +1,4 @@
--- Every decision that is made of a record can be carried out on it: `decide-follows`. One lemma for each definition, by its cases. Assumes nothing.
+-- Every decision that is made of a record can be carried out on it: `decide-follows`. One lemma for each definition, by its cases.
 use Prim.Native.Nat.{ℕ, _<_, _≤_}
 use mathlib.Core.Bool.{Bool, true, false}
 use mathlib.Core.Path.{_≡_, refl}

@@ -1,4 +1,4 @@
--- What the walk of an edge list counts from an edge on, by the edge and by what it counts from the next on. Assumes nothing.
+-- What the walk of an edge list counts from an edge on, by the edge and by what it counts from the next on.
 use Prim.Native.Nat.{ℕ, _+_, _-_, _≤_}
 use mathlib.Core.Bool.{Bool, true, false}
 use mathlib.Core.List.{List, [], _∷_}

@@ -1,4 +1,4 @@
--- What the walk over the live vertices finds from a vertex on, by its list and by what the walk finds from the next on. Assumes nothing.
+-- What the walk over the live vertices finds from a vertex on, by its list and by what the walk finds from the next on.
 use Prim.Native.Nat.{ℕ, _+_, _*_, _-_, _≤_}
 use mathlib.Core.Bool.{Bool, true, false}
 use mathlib.Core.List.{List, [], _∷_, _++_}

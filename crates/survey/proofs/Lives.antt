@@ -1,4 +1,4 @@
--- An edge that a call found to be ADDED or live lies in its pool. Assumes nothing.
+-- An edge that a call found to be ADDED or live lies in its pool.
 use Prim.Native.Nat.{ℕ, _<_}
 use mathlib.Core.Bool.{Bool, true}
 use mathlib.Core.Path.{_≡_, sym, _∙_}

@@ -1,4 +1,4 @@
--- The set that the walk makes has exactly the vertices that it met, where all are sound. Assumes nothing.
+-- The set that the walk makes has exactly the vertices that it met, where all are sound.
 use Prim.Native.Nat.{ℕ, _+_, _/_, _%_, _^_, _<_}
 use mathlib.Core.Bool.{Bool, true}
 use mathlib.Core.List.{List, [], _∷_}

@@ -1,4 +1,4 @@
--- Where a link that the code took apart leads, and where a walk goes on, lies in its pool. Assumes nothing.
+-- Where a link that the code took apart leads, and where a walk goes on, lies in its pool.
 use Prim.Native.Nat.{ℕ, _<_}
 use mathlib.Core.Path.{_≡_, sym, _∙_, subst}
 use Rattle.catalogue.specs.Numbers.{edge-tail}

@@ -1,4 +1,4 @@
--- The whole survey by what its walks found. Assumes nothing.
+-- The whole survey by what its walks found.
 use Prim.Native.Nat.{ℕ, _+_}
 use mathlib.Core.Bool.{Bool, true, false}
 use mathlib.Core.Path.{_≡_, refl, sym, _∙_, ap}

@@ -1,4 +1,4 @@
--- What a test that was a call tells, and a key that was read twice. Assumes nothing.
+-- What a test that was a call tells, and a key that was read twice.
 use Prim.Native.Nat.{ℕ}
 use mathlib.Core.Bool.{Bool, true, false}
 use mathlib.Core.List.{List}

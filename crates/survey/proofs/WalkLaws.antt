@@ -1,4 +1,4 @@
--- What a walk finds from a node on, by what it finds there and from the next node on. Assumes nothing.
+-- What a walk finds from a node on, by what it finds there and from the next node on.
 use Prim.Native.Nat.{ℕ, _-_, _<_}
 use mathlib.Core.Bool.{Bool, true, false}
 use mathlib.Core.List.{List, _∷_}

@@ -2,7 +2,7 @@
 ghost use mathlib.Core.Path.{_≡_};
 ghost use Prim.Native.Nat.{_<_};
 ghost use lib.ListN.{length};
-ghost use Rattle.catalogue.specs.Lent.{Sized, catalogue-in};
+ghost use Rattle.catalogue.specs.Lent.{words-size, Sized, catalogue-in};
 ghost use Rattle.catalogue.specs.Live.{next-vertex, first-edge, next-edge, unmarked, is-added, is-live};
 ghost use Rattle.catalogue.specs.Soundness.{vertex-sound, tag-fits, target-sound, edge-sound};
 ghost use Rattle.survey.specs.Walks.{linked, asks-of, Ready};
@@ -19,7 +19,7 @@ use workers::met::met_has;
 
 // A torn link leads to the tail, where a walk ends.
 pub fn next_vertex(words: &[u32], x: u8) -> u8
-    requires { ⌜ length (now words) ≡ 4610 ⌝ }
+    requires { ⌜ length (now words) ≡ words-size ⌝ }
     ensures { λ r. ⌜ r ≡ next-vertex (linked (now (words .entry))) x ⌝ }
 {
     let VertexLink::At { next, tag: _ } = vertex_link(words, x) else {
@@ -29,7 +29,7 @@ pub fn next_vertex(words: &[u32], x: u8) -> u8
 }
 
 pub fn first_edge(words: &[u32], x: u8) -> u16
-    requires { ⌜ length (now words) ≡ 4610 ⌝ }
+    requires { ⌜ length (now words) ≡ words-size ⌝ }
     ensures { λ r. ⌜ r ≡ first-edge (linked (now (words .entry))) x ⌝ }
 {
     let EdgeLink::At { next, tag: _ } = first_link(words, x) else {
@@ -39,7 +39,7 @@ pub fn first_edge(words: &[u32], x: u8) -> u16
 }
 
 pub fn next_edge(words: &[u32], e: u16) -> u16
-    requires { ⌜ length (now words) ≡ 4610 ⌝ }
+    requires { ⌜ length (now words) ≡ words-size ⌝ }
     ensures { λ r. ⌜ r ≡ next-edge (linked (now (words .entry))) e ⌝ }
 {
     let EdgeLink::At { next, tag: _ } = edge_link(words, e) else {
@@ -49,7 +49,7 @@ pub fn next_edge(words: &[u32], e: u16) -> u16
 }
 
 pub fn unmarked(words: &[u32], x: u8) -> bool
-    requires { ⌜ length (now words) ≡ 4610 ⌝ }
+    requires { ⌜ length (now words) ≡ words-size ⌝ }
     ensures { λ r. ⌜ r ≡ unmarked (linked (now (words .entry))) x ⌝ }
 {
     let VertexLink::At { next: _, tag } = vertex_link(words, x) else {
@@ -62,7 +62,7 @@ pub fn unmarked(words: &[u32], x: u8) -> bool
 }
 
 pub fn is_added(words: &[u32], e: u16) -> bool
-    requires { ⌜ length (now words) ≡ 4610 ⌝ }
+    requires { ⌜ length (now words) ≡ words-size ⌝ }
     ensures { λ r. ⌜ r ≡ is-added (linked (now (words .entry))) e ⌝ }
 {
     let EdgeLink::At { next: _, tag } = edge_link(words, e) else {
@@ -75,7 +75,7 @@ pub fn is_added(words: &[u32], e: u16) -> bool
 }
 
 pub fn is_live(words: &[u32], e: u16) -> bool
-    requires { ⌜ length (now words) ≡ 4610 ⌝ }
+    requires { ⌜ length (now words) ≡ words-size ⌝ }
     ensures { λ r. ⌜ r ≡ is-live (linked (now (words .entry))) e ⌝ }
 {
     if is_added(words, e) {

@@ -1,4 +1,4 @@
--- Whether a worker below a number is busy, by the cases of the recursion. Assumes nothing.
+-- Whether a worker below a number is busy, by the cases of the recursion.
 use Prim.Native.Nat.{ℕ, zero, suc, _-_}
 use mathlib.Core.Bool.{Bool, true, false}
 use mathlib.Core.Path.{_≡_, refl, sym, ap, _∙_}

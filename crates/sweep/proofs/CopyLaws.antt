@@ -1,4 +1,4 @@
--- One node made anew, by what each callee leaves and the test answers. Assumes nothing.
+-- One node made anew, by what each callee leaves and the test answers.
 use Prim.Native.Nat.{ℕ, _+_, _≤_, _<_}
 use mathlib.Core.Bool.{Bool, true, false}
 use mathlib.Core.Path.{_≡_, refl, sym, ap, _∙_}

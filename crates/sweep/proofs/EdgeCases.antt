@@ -1,4 +1,4 @@
--- The new edges of one source, by the cases of the walk of its list. Assumes nothing.
+-- The new edges of one source, by the cases of the walk of its list.
 use Prim.Native.Nat.{ℕ, _+_, _-_, _≤_, _<_}
 use mathlib.Core.Bool.{Bool, true, false}
 use mathlib.Core.List.{List, _∷_}

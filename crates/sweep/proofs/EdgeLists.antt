@@ -1,4 +1,4 @@
--- The edges that the walks make stand in the second catalogue under the numbers 1, 2, .. in the walks' order, each list in one run. Assumes nothing.
+-- The edges that the walks make stand in the second catalogue under the numbers 1, 2, .. in the walks' order, each list in one run.
 use Prim.Native.Nat.{ℕ, zero, suc, _+_, _<_, _≤_}
 use mathlib.Core.List.{List, [], _∷_, _++_, map, append-assoc, append-nil}
 use mathlib.Core.Logic.{inl, inr}

@@ -1,4 +1,4 @@
--- A list with one more member at its end: what stands at each number. Assumes nothing.
+-- A list with one more member at its end: what stands at each number.
 use Prim.Native.Nat.{ℕ, zero, suc}
 use mathlib.Core.List.{List, [], _∷_, _++_}
 use mathlib.Core.Logic.{inl, inr}

@@ -1,4 +1,4 @@
--- The first edge of each source, where one more edge stands behind the others. Assumes nothing.
+-- The first edge of each source, where one more edge stands behind the others.
 use Prim.Native.Nat.{ℕ, suc, _+_, _<_, _≤_}
 use mathlib.Core.List.{List, [], _∷_, _++_}
 use mathlib.Core.Logic.{inl, inr}

@@ -1,4 +1,4 @@
--- The new edges of all sources, by the cases of the vertex walk. Assumes nothing.
+-- The new edges of all sources, by the cases of the vertex walk.
 use Prim.Native.Nat.{ℕ, _+_, _-_, _≤_}
 use mathlib.Core.Bool.{Bool, true, false}
 use mathlib.Core.List.{List}

@@ -1,4 +1,4 @@
--- The table that the vertex walk fills has under each old number the place in the list, counted from 2. Assumes nothing.
+-- The table that the vertex walk fills has under each old number the place in the list, counted from 2.
 use Prim.Native.Nat.{ℕ, suc, _+_, _<_, _≤_}
 use mathlib.Core.List.{List, [], _∷_}
 use mathlib.Core.Path.{_≡_, refl, sym, ap, subst, _∙_}

@@ -1,4 +1,4 @@
--- A new node, by the writes that make it: what each commit leaves is memory of the catalogue with the node. Assumes nothing.
+-- A new node, by the writes that make it: what each commit leaves is memory of the catalogue with the node.
 use Prim.Native.Nat.{ℕ, _+_, _<_}
 use mathlib.Core.List.{List}
 use mathlib.Core.Path.{_≡_, sym, ap, _∙_, subst}

@@ -1,4 +1,4 @@
--- What a sweep leaves, by the checks on the way: each refusal is the case of the definition that its checks choose, and changes nothing. Assumes nothing.
+-- What a sweep leaves, by the checks on the way: each refusal is the case of the definition that its checks choose, and changes nothing.
 use Prim.Native.Nat.{ℕ, _≤_}
 use mathlib.Core.Bool.{Bool, true, false}
 use mathlib.Core.List.{List}

@@ -1,4 +1,4 @@
--- What the two walks leave of a sound catalogue is the memory of its second catalogue, and there is room for it. Assumes nothing.
+-- What the two walks leave of a sound catalogue is the memory of its second catalogue, and there is room for it.
 use Prim.Native.Nat.{ℕ, _+_, _≤_}
 use mathlib.Core.Bool.{true, false}
 use mathlib.Core.List.{List, [], map}

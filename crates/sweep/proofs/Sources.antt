@@ -1,4 +1,4 @@
--- The sources of the edges by number, and the links that they make: an edge leads to the next one where that has the same source. Assumes nothing.
+-- The sources of the edges by number, and the links that they make: an edge leads to the next one where that has the same source.
 use Prim.Native.Nat.{ℕ, zero, suc, _+_, _<_, _≤_}
 use mathlib.Core.List.{List, [], _∷_, _++_, map, map-append}
 use mathlib.Core.Logic.{inl, inr}

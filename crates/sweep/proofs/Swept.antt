@@ -1,4 +1,4 @@
--- The second catalogue by its keys and edges alone, whichever they are; a sweep's is the one of the live vertices and edges. Assumes nothing.
+-- The second catalogue by its keys and edges alone, whichever they are; a sweep's is the one of the live vertices and edges.
 use Prim.Native.Nat.{ℕ, _+_}
 use mathlib.Core.List.{List, _∷_, map}
 use mathlib.Core.Path.{_≡_, refl}

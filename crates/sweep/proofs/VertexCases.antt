@@ -1,4 +1,4 @@
--- The new vertices and their numbers, by the cases of the vertex walk. Assumes nothing.
+-- The new vertices and their numbers, by the cases of the vertex walk.
 use Prim.Native.Nat.{ℕ, _+_, _-_}
 use mathlib.Core.Bool.{Bool, true, false}
 use mathlib.Core.List.{List}

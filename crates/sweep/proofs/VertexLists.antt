@@ -1,4 +1,4 @@
--- The vertices that a walk makes stand in the second catalogue under the numbers 2, 3, .. in the walk's order. Assumes nothing.
+-- The vertices that a walk makes stand in the second catalogue under the numbers 2, 3, .. in the walk's order.
 use Prim.Native.Nat.{ℕ, zero, suc, _+_, _<_, _≤_}
 use mathlib.Core.Bool.{true, false}
 use mathlib.Core.List.{List, [], _∷_, _++_, map, append-assoc, append-nil}

@@ -4,7 +4,7 @@ ghost use Prim.Native.Nat.{_+_, _≤_, _<_};
 ghost use lib.ListN.{length, set};
 ghost use Rattle.catalogue.specs.Catalogue.{vertex-key-in, edge-key};
 ghost use Rattle.catalogue.specs.Live.{is-live};
-ghost use Rattle.catalogue.specs.Lent.{Sized, memory-of, catalogue-in, vkeys};
+ghost use Rattle.catalogue.specs.Lent.{keys-size, Sized, memory-of, catalogue-in, vkeys};
 ghost use Rattle.survey.specs.Walks.{linked};
 ghost use Rattle.sweep.specs.Built.{committed, vertex-write, target-number, tip-after, copied};
 use crate::nodes::add_edge;
@@ -31,7 +31,7 @@ pub fn copy_vertex(
     n: u8,
     x: u8,
 )
-    requires { ⌜ length (now keys) ≡ 2304 ⌝ }
+    requires { ⌜ length (now keys) ≡ keys-size ⌝ }
     requires { ⌜ Sized (now «new_keys») (now «new_words») ⌝ }
     requires { ⌜ length (now numbers) ≡ 256 ⌝ }
     requires { ⌜ n < 254 ⌝ }

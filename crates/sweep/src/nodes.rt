@@ -2,7 +2,7 @@
 ghost use mathlib.Core.Path.{_≡_};
 ghost use Prim.Native.Nat.{_+_, _<_};
 ghost use lib.ListN.{length, set};
-ghost use Rattle.catalogue.specs.Lent.{Sized, memory-of};
+ghost use Rattle.catalogue.specs.Lent.{words-size, Sized, memory-of};
 ghost use Rattle.survey.specs.Walks.{linked};
 ghost use Rattle.sweep.specs.Built.{committed, last-vertex, vertex-write, edge-write, with-edge, target-number};
 use catalogue::links::Target;
@@ -105,7 +105,7 @@ pub fn add_edge(
 
 // A live edge has a whole target; the number of a torn one is of no use to anybody.
 pub fn target_number(words: &[u32], numbers: &[u8], e: u16) -> u8
-    requires { ⌜ length (now words) ≡ 4610 ⌝ }
+    requires { ⌜ length (now words) ≡ words-size ⌝ }
     requires { ⌜ length (now numbers) ≡ 256 ⌝ }
     requires { ⌜ e < 2048 ⌝ }
     ensures { λ r. ⌜ r ≡ target-number (linked (now (words .entry))) (now (numbers .entry)) e ⌝ }

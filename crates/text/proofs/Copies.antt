@@ -1,4 +1,4 @@
--- A loop that copies bytes from the front: what it keeps, and that it ends in the whole run put. Assumes nothing.
+-- A loop that copies bytes from the front: what it keeps, and that it ends in the whole run put.
 use Prim.Native.Nat.{ℕ, _+_, _≤_, _<_}
 use mathlib.Core.List.{List, append-assoc}
 use mathlib.Core.Path.{_≡_, refl, _∙_}

@@ -1,4 +1,4 @@
--- A number's decimal digits are those of its tenth and then its last one, whatever bounds the recursion. Assumes nothing.
+-- A number's decimal digits are those of its tenth and then its last one, whatever bounds the recursion.
 use Prim.Native.Nat.{ℕ, zero, suc, _+_, _^_, _/_, _%_, _≤_, _<_}
 use mathlib.Core.Bool.{true, false}
 use mathlib.Core.List.{[], _∷_, _++_}

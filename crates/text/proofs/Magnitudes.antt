@@ -1,4 +1,4 @@
--- The sign turned in 64 bits loses nothing of a number of 32, and what is cast to no sign is the number's magnitude. Assumes nothing.
+-- The sign turned in 64 bits loses nothing of a number of 32, and what is cast to no sign is the number's magnitude.
 use Prim.Native.Nat.{zero, suc}
 use mathlib.Core.Bool.{true, false, false≢true}
 use mathlib.Core.Path.{_≡_, refl, sym, ap, _∙_}

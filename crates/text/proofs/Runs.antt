@@ -1,4 +1,4 @@
--- Runs of bytes that are put one behind the other are one run, and none changes how long the output is. Assumes nothing.
+-- Runs of bytes that are put one behind the other are one run, and none changes how long the output is.
 use Prim.Native.Nat.{ℕ, _+_, _≤_, _<_}
 use mathlib.Core.List.{List, [], _∷_, _++_, append-assoc}
 use mathlib.Core.Path.{_≡_, sym, ap, _∙_}

@@ -1,4 +1,4 @@
--- A negative number is a minus and its magnitude, any other its magnitude alone. Assumes nothing.
+-- A negative number is a minus and its magnitude, any other its magnitude alone.
 use Prim.Native.Nat.{ℕ, _+_, _≤_}
 use mathlib.Core.Bool.{true, false, false≢true}
 use mathlib.Core.List.{List, [], _∷_}

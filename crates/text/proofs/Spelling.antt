@@ -1,4 +1,4 @@
--- A loop that stores the last digit of what is left before those that it has keeps the number's digits, and ten places are enough for 32 bits. Assumes nothing.
+-- A loop that stores the last digit of what is left before those that it has keeps the number's digits, and ten places are enough for 32 bits.
 use Prim.Native.Nat.{ℕ, zero, suc, _+_, _-_, _^_, _/_, _%_, _≤_, _<_}
 use mathlib.Core.List.{List, [], _∷_, _++_, append-assoc, append-nil}
 use mathlib.Core.Path.{_≡_, refl, sym, ap, _∙_}

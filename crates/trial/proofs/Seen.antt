@@ -1,4 +1,4 @@
--- What the ways of a trial need. Assumes nothing.
+-- What the ways of a trial need.
 use Prim.Native.Nat.{ℕ}
 use mathlib.Core.Bool.{Bool}
 use mathlib.Core.List.{List}

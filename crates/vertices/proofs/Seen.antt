@@ -1,4 +1,4 @@
--- What was seen or is left, by the constructor that the code took it apart into. Assumes nothing.
+-- What was seen or is left, by the constructor that the code took it apart into.
 use Prim.Native.Nat.{ℕ}
 use mathlib.Core.Path.{_≡_, refl}
 use mir.Facts.{toZ-ofZ}

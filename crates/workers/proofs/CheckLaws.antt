@@ -1,4 +1,4 @@
--- What the checks of counts and of workers' numbers say of the definitions, and what they give the checks after them. Assumes nothing.
+-- What the checks of counts and of workers' numbers say of the definitions, and what they give the checks after them.
 use Prim.Native.Nat.{ℕ, _<_}
 use mathlib.Core.Bool.{Bool, true}
 use mathlib.Core.Path.{_≡_, sym, _∙_}

@@ -1,4 +1,4 @@
--- What the arms of a match on a place tell: an arm that knows its place, and the arm of all places but `Idle`. Assumes nothing.
+-- What the arms of a match on a place tell: an arm that knows its place, and the arm of all places but `Idle`.
 use Prim.Native.Nat.{ℕ}
 use mathlib.Core.Bool.{true, false}
 use mathlib.Core.List.{List, [], _∷_}

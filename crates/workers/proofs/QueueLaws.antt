@@ -1,4 +1,4 @@
--- What a read past the end of a queue gives. Assumes nothing.
+-- What a read past the end of a queue gives.
 use Prim.Native.Nat.{ℕ, zero, suc, _≤_}
 use mathlib.Core.List.{List, [], _∷_}
 use mathlib.Core.Path.{_≡_, refl, subst, sym}

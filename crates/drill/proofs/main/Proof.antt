@@ -1,4 +1,4 @@
--- Each buffer is lent whole, and what is written out is the part that the call has filled. Assumes nothing.
+-- Each buffer is lent whole, and what is written out is the part that the call has filled.
 use Rattle.run.proofs.Results.{prefix}
 use borrow.Author.Needs.{needs}
 use Rattle.drill.proofs.main.Statement.{statement}

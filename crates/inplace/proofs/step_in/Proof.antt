@@ -1,4 +1,4 @@
--- The borrow of the record is opened, the record is copied out and passed with the slices to the covered step, of which only its contract is known; of what comes back the worker is stored over the record and the answer is returned. A walk of the MIR by hand. Assumes nothing.
+-- The borrow of the record is opened, the record is copied out and passed with the slices to the covered step, of which only its contract is known; of what comes back the worker is stored over the record and the answer is returned. A walk of the MIR by hand.
 use mathlib.Core.Path.{_≡_, refl, ap}
 use Prim.Native.Nat.{ℕ}
 use mathlib.Core.List.{[], _∷_, List}

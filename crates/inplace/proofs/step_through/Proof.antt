@@ -1,4 +1,4 @@
--- The record is copied into a local, which is lent for a lifetime made here; the step by reference is known by its contract alone. When the lifetime has ended the local is taken back at the record that the contract names, and with the answer it is the result. A walk of the MIR by hand. Assumes nothing.
+-- The record is copied into a local, which is lent for a lifetime made here; the step by reference is known by its contract alone. When the lifetime has ended the local is taken back at the record that the contract names, and with the answer it is the result. A walk of the MIR by hand.
 use mathlib.Core.Path.{_≡_, refl, ap}
 use Prim.Native.Nat.{ℕ}
 use mathlib.Core.List.{[], _∷_, List}

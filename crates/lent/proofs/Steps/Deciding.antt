@@ -1,4 +1,4 @@
--- A step decides the same in catalogues that agree, for a record in range, and leaves the record in range. Assumes nothing.
+-- A step decides the same in catalogues that agree, for a record in range, and leaves the record in range.
 use Prim.Native.Nat.{ℕ}
 use mathlib.Core.List.{List}
 use native.Mathlib.Omega.{arith}

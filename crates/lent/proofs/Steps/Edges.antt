@@ -1,4 +1,4 @@
--- AddE, RemE and ConE decide the same in catalogues that agree: an edge is looked at only in its pool. Assumes nothing.
+-- AddE, RemE and ConE decide the same in catalogues that agree: an edge is looked at only in its pool.
 use Prim.Native.Nat.{ℕ, _<_}
 use mathlib.Core.Bool.{Bool}
 use mathlib.Core.Path.{_≡_}

@@ -1,4 +1,4 @@
--- ConV, and finding u and v, decide the same in catalogues that agree. Assumes nothing.
+-- ConV, and finding u and v, decide the same in catalogues that agree.
 use Prim.Native.Nat.{ℕ}
 use native.Mathlib.Omega.{arith}
 use lib.IntN.{ℤ}

@@ -1,4 +1,4 @@
--- The trial decides the same in catalogues that agree: what it meets are vertices of the pool. Assumes nothing.
+-- The trial decides the same in catalogues that agree: what it meets are vertices of the pool.
 use Prim.Native.Nat.{ℕ}
 use mathlib.Core.List.{List}
 use lib.IntN.{ℤ}

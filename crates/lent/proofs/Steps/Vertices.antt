@@ -1,4 +1,4 @@
--- AddV and RemV decide the same in catalogues that agree, since they look at vertices of the pool. Assumes nothing.
+-- AddV and RemV decide the same in catalogues that agree, since they look at vertices of the pool.
 use Prim.Native.Nat.{ℕ}
 use mathlib.Core.Bool.{Bool}
 use native.Mathlib.Omega.{arith}

@@ -1,4 +1,4 @@
--- A trial that runs alone and is replied 1 has made just the steps of its tally, and the last. Assumes nothing.
+-- A trial that runs alone and is replied 1 has made just the steps of its tally, and the last.
 use Prim.Native.Nat.{ℕ, zero, suc, _+_, _*_, _≤_, _<_}
 use mathlib.Core.Bool.{true, false, not}
 use mathlib.Core.List.{List}

@@ -1,4 +1,4 @@
--- ConV and ConE: taken up, they have passed the head alone; so they step no oftener than their limits say. Assumes nothing.
+-- ConV and ConE: taken up, they have passed the head alone; so they step no oftener than their limits say.
 use Prim.Native.Nat.{ℕ, suc, _≤_}
 use mathlib.Core.Bool.{true}
 use mathlib.Core.Path.{_≡_, refl}

@@ -1,4 +1,4 @@
--- What a trial alone spends on a vertex: two steps, and one for each edge node in its list, whose length falls by one from node to node. Assumes nothing.
+-- What a trial alone spends on a vertex: two steps, and one for each edge node in its list, whose length falls by one from node to node.
 use Prim.Native.Nat.{ℕ, suc, _+_, _≤_, _<_}
 use mathlib.Core.List.{List}
 use mathlib.Core.Logic.{inl, inr}

@@ -1,4 +1,4 @@
--- Counting the numbers below a bound that pass a test: where a test passes more, or there are more numbers, the count is no less. Assumes nothing.
+-- Counting the numbers below a bound that pass a test: where a test passes more, or there are more numbers, the count is no less.
 use Prim.Native.Nat.{ℕ, zero, suc, _≤_, _<_}
 use mathlib.Core.Bool.{Bool, true, false}
 use mathlib.Core.Logic.{inl, inr}

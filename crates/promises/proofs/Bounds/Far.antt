@@ -1,4 +1,4 @@
--- How far a call has come that has a bound: what it can no longer visit, which cannot exceed the pools. Assumes nothing.
+-- How far a call has come that has a bound: what it can no longer visit, which cannot exceed the pools.
 use Prim.Native.Nat.{ℕ, _+_, _*_, _≤_, _<_}
 use mathlib.Core.Bool.{Bool, true, false, not, _&&_}
 use mathlib.Core.Path.{_≡_, refl}

@@ -1,4 +1,4 @@
--- Wherever a call with a bound stands, it is within its limit, and its own step that is not replied to takes it further. Assumes nothing.
+-- Wherever a call with a bound stands, it is within its limit, and its own step that is not replied to takes it further.
 use Prim.Native.Nat.{ℕ, _≤_}
 use mathlib.Core.Bool.{Bool, false}
 use native.Mathlib.Omega.{arith}

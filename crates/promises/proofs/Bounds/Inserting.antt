@@ -1,4 +1,4 @@
--- The step that inserts an edge: the machine's worker begins its trial, with v alone to do. Assumes nothing.
+-- The step that inserts an edge: the machine's worker begins its trial, with v alone to do.
 use Prim.Native.Nat.{ℕ, _≤_, _<_}
 use mathlib.Core.Bool.{Bool, true, false, cond, not}
 use mathlib.Core.Logic.{inl, inr}

@@ -1,4 +1,4 @@
--- Others' steps leave a call as far as it was: keys and owners stay, and nodes are only added. Assumes nothing.
+-- Others' steps leave a call as far as it was: keys and owners stay, and nodes are only added.
 use Prim.Native.Nat.{ℕ, zero, suc, _≤_, _<_}
 use mathlib.Core.Bool.{Bool, false}
 use mathlib.Core.Logic.{inl, inr}

@@ -1,4 +1,4 @@
--- A step of a call that only looks, and is not replied to, takes it further: it moves on to a greater key, or to the next walk. Assumes nothing.
+-- A step of a call that only looks, and is not replied to, takes it further: it moves on to a greater key, or to the next walk.
 use Prim.Native.Nat.{ℕ, suc, _≤_, _<_}
 use mathlib.Core.Bool.{Bool, true, false, cond, not, _&&_, _||_}
 use mathlib.Core.Logic.{inl}

@@ -1,4 +1,4 @@
--- Every choice but a busy worker's own step leaves that worker where it stands, and keeps the lists. Assumes nothing.
+-- Every choice but a busy worker's own step leaves that worker where it stands, and keeps the lists.
 use Prim.Native.Nat.{ℕ, _≤_, _<_}
 use mathlib.Core.Bool.{true, false}
 use mathlib.Core.Path.{_≡_, refl, sym, ap}

@@ -1,4 +1,4 @@
--- A busy worker's own step is one move of the machine's worker, answered as the machine answers. Assumes nothing.
+-- A busy worker's own step is one move of the machine's worker, answered as the machine answers.
 use Prim.Native.Nat.{ℕ, _≤_, _<_}
 use mathlib.Core.Bool.{true, false}
 use mathlib.Core.Option.{none}

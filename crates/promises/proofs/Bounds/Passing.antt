@@ -1,4 +1,4 @@
--- A walk that moves on passes the node that it leaves: one more stands below the key where it is now. Assumes nothing.
+-- A walk that moves on passes the node that it leaves: one more stands below the key where it is now.
 use Prim.Native.Nat.{ℕ, suc, _≤_, _<_}
 use mathlib.Core.Bool.{Bool, true, false, not, _&&_}
 use mathlib.Core.Path.{_≡_}

@@ -1,4 +1,4 @@
--- A measure that never falls by others' choices, rises with each own step that is not replied to, and is bounded, bounds these steps. Assumes nothing.
+-- A measure that never falls by others' choices, rises with each own step that is not replied to, and is bounded, bounds these steps.
 use Prim.Native.Nat.{ℕ, _+_, _≤_, _<_}
 use mathlib.Core.Bool.{Bool, true, false, not}
 use mathlib.Core.List.{List, [], _∷_}

@@ -1,4 +1,4 @@
--- A trial that runs alone in a world that stays as it is: each vertex taken costs two steps and one for each edge node in its list. Assumes nothing.
+-- A trial that runs alone in a world that stays as it is: each vertex taken costs two steps and one for each edge node in its list.
 use Prim.Native.Nat.{ℕ, suc, _+_, _≤_}
 use mathlib.Core.Bool.{Bool, true, false, cond, not, _&&_, _||_}
 use mathlib.Core.List.{List, [], _∷_}

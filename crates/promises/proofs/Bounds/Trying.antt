@@ -1,4 +1,4 @@
--- A step of a trial that is not replied to takes it further: it takes a vertex that it had not taken, passes an edge, or closes the open vertex. Assumes nothing.
+-- A step of a trial that is not replied to takes it further: it takes a vertex that it had not taken, passes an edge, or closes the open vertex.
 use Prim.Native.Nat.{ℕ, suc, _≤_, _<_}
 use mathlib.Core.Bool.{Bool, true, false, cond, not, _&&_, _||_}
 use mathlib.Core.List.{List, [], _∷_}

@@ -1,4 +1,4 @@
--- What a decision tells, at any place. Assumes nothing.
+-- What a decision tells, at any place.
 use Prim.Native.Nat.{ℕ, _≤_}
 use mathlib.Core.List.{List}
 use mathlib.Core.Path.{_≡_, subst}

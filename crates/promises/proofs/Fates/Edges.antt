@@ -1,4 +1,4 @@
--- What AddE, RemE and ConE decide: a reply in the row, 7 at an edge on trial, 9 where an edge is needed and none is left, or to try one. Assumes nothing.
+-- What AddE, RemE and ConE decide: a reply in the row, 7 at an edge on trial, 9 where an edge is needed and none is left, or to try one.
 use Prim.Native.Nat.{ℕ}
 use mathlib.Core.Bool.{true, false}
 use mathlib.Core.Path.{_≡_, refl}

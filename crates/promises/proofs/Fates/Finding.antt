@@ -1,4 +1,4 @@
--- What ConV and the looks for u and v decide: a reply in the row, or to look on. Assumes nothing.
+-- What ConV and the looks for u and v decide: a reply in the row, or to look on.
 use Prim.Native.Nat.{ℕ}
 use mathlib.Core.Path.{refl}
 use lib.IntN.{ℤ}

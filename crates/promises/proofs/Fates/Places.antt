@@ -1,4 +1,4 @@
--- The places that a request goes on to by its code are no trial's. Assumes nothing.
+-- The places that a request goes on to by its code are no trial's.
 use Prim.Native.Nat.{ℕ}
 use mathlib.Core.Bool.{Bool, true, false}
 use mathlib.Core.Path.{_≡_, refl}

@@ -1,4 +1,4 @@
--- What a decision tells of the place at which it was made. Assumes nothing.
+-- What a decision tells of the place at which it was made.
 use Prim.Native.Nat.{ℕ, _<_, _≤_}
 use mathlib.Core.Bool.{Bool, true, false}
 use mathlib.Core.Path.{_≡_, refl}

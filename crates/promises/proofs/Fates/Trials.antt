@@ -1,4 +1,4 @@
--- What a trial decides: to keep, meet or take a vertex, or a reply, which is 6 where it takes its source. Assumes nothing.
+-- What a trial decides: to keep, meet or take a vertex, or a reply, which is 6 where it takes its source.
 use Prim.Native.Nat.{ℕ}
 use mathlib.Core.Bool.{true}
 use mathlib.Core.List.{List}

@@ -1,4 +1,4 @@
--- What AddV and RemV decide: a reply in the row, or 9 where a vertex is needed and none is left. Assumes nothing.
+-- What AddV and RemV decide: a reply in the row, or 9 where a vertex is needed and none is left.
 use Prim.Native.Nat.{ℕ}
 use mathlib.Core.Bool.{true, false}
 use mathlib.Core.Path.{_≡_, refl}

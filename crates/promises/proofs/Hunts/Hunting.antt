@@ -1,4 +1,4 @@
--- What a trial keeps is so when it begins, and is kept by its three kinds of step: staying, meeting a vertex, taking the front of the queue. Assumes nothing.
+-- What a trial keeps is so when it begins, and is kept by its three kinds of step: staying, meeting a vertex, taking the front of the queue.
 use Prim.Native.Nat.{ℕ, _+_, _≤_, _<_}
 use mathlib.Core.Bool.{true, false}
 use mathlib.Core.List.{List, [], _∷_, _++_}

@@ -1,4 +1,4 @@
--- The set met: nobody is in the empty one; with one number more that number is in it now, every other one as before, and there is one more of them. Assumes nothing.
+-- The set met: nobody is in the empty one; with one number more that number is in it now, every other one as before, and there is one more of them.
 use Prim.Native.Nat.{ℕ, zero, suc, _+_, _/_, _≤_, _<_}
 use mathlib.Core.Bool.{Bool, true, false}
 use mathlib.Core.List.{List}

@@ -1,4 +1,4 @@
--- The queue from its front to its back, as a list: what is put at the back is its last, what stands at the front its first. Assumes nothing.
+-- The queue from its front to its back, as a list: what is put at the back is its last, what stands at the front its first.
 use Prim.Native.Nat.{ℕ, suc, _+_, _≤_, _<_}
 use mathlib.Core.List.{List, [], _∷_, _++_}
 use mathlib.Core.Logic.{inl, inr}

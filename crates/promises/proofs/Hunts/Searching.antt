@@ -1,4 +1,4 @@
--- Whom a trial has met, taken, and still has to do: so it is before anybody is met, and meeting and taking keep it. Assumes nothing.
+-- Whom a trial has met, taken, and still has to do: so it is before anybody is met, and meeting and taking keep it.
 use Prim.Native.Nat.{ℕ}
 use mathlib.Core.Bool.{Bool, true, false}
 use mathlib.Core.List.{List, [], _∷_, _++_}

@@ -1,4 +1,4 @@
--- A catalogue that shows a good world is sound: for a listing always, for a sweep where no edge is on trial. Assumes nothing.
+-- A catalogue that shows a good world is sound: for a listing always, for a sweep where no edge is on trial.
 use Prim.Native.Nat.{ℕ, _+_, _≤_, _<_}
 use mathlib.Core.Bool.{Bool, true, false, not}
 use mathlib.Core.List.{List, _∷_}

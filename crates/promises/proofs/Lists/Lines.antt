@@ -1,4 +1,4 @@
--- A line printed among others: what holds of every line holds of it, and every line is printed. Assumes nothing.
+-- A line printed among others: what holds of every line holds of it, and every line is printed.
 use mathlib.Core.Bool.{true}
 use mathlib.Core.List.{List, [], _∷_}
 use mathlib.Core.Path.{_≡_, refl, ap₂}

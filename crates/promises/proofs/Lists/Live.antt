@@ -1,4 +1,4 @@
--- The live graph of a catalogue that shows a good world, as a listing prints it, is that world's graph, and has no loop. Assumes nothing.
+-- The live graph of a catalogue that shows a good world, as a listing prints it, is that world's graph, and has no loop.
 use Prim.Native.Nat.{ℕ}
 use mathlib.Core.Bool.{true}
 use mathlib.Core.List.{List, [], _∷_}

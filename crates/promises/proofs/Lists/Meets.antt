@@ -1,4 +1,4 @@
--- What a catalogue's walks meet, where it shows a good world: its live vertices, and in each one's list the edges that are its own. Assumes nothing.
+-- What a catalogue's walks meet, where it shows a good world: its live vertices, and in each one's list the edges that are its own.
 use Prim.Native.Nat.{ℕ, _≤_, _<_}
 use mathlib.Core.Bool.{Bool, true, false, not, _&&_}
 use mathlib.Core.Logic.{inl, inr}

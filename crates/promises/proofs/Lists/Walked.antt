@@ -1,4 +1,4 @@
--- A walk whose keys rise strictly meets no node twice, and so, by the pigeonhole law, all that its start leads to. Assumes nothing.
+-- A walk whose keys rise strictly meets no node twice, and so, by the pigeonhole law, all that its start leads to.
 use Prim.Native.Nat.{ℕ, zero, suc, _≤_, _<_}
 use mathlib.Core.Bool.{true}
 use mathlib.Core.List.{_∷_}

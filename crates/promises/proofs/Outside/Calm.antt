@@ -1,4 +1,4 @@
--- While nobody puts an edge in, what is live was live before: one choice of the machine, beside a worker that is busy. Assumes nothing.
+-- While nobody puts an edge in, what is live was live before: one choice of the machine, beside a worker that is busy.
 use Prim.Native.Nat.{ℕ, _≤_, _<_}
 use mathlib.Core.Bool.{Bool, true, false, cond, not, _&&_, _||_}
 use mathlib.Core.List.{List, [], _∷_}

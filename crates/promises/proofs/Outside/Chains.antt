@@ -1,5 +1,5 @@
 -- Whatever a trial has in its queue, or open, it has come to from its target over edges that stood: so it is when the trial begins, and each of its steps
--- keeps it so. Assumes nothing.
+-- keeps it so.
 use Prim.Native.Nat.{ℕ, zero, suc, _≤_, _<_}
 use mathlib.Core.List.{List}
 use mathlib.Core.Logic.{inl, inr}

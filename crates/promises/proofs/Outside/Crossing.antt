@@ -1,4 +1,4 @@
--- What a trial crosses stands: the current edge of the open vertex is in its list. Assumes nothing.
+-- What a trial crosses stands: the current edge of the open vertex is in its list.
 use Prim.Native.Nat.{ℕ, _≤_, _<_}
 use mathlib.Core.Bool.{true, false}
 use mathlib.Core.Path.{_≡_, refl, sym, _∙_}

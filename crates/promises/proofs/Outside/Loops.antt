@@ -1,4 +1,4 @@
--- Reply 6 is given where the source stands at the front of the queue, so a chain leads there; the own edge that is marked was not live. Assumes nothing.
+-- Reply 6 is given where the source stands at the front of the queue, so a chain leads there; the own edge that is marked was not live.
 use Prim.Native.Nat.{ℕ, _≤_, _<_}
 use mathlib.Core.Bool.{Bool}
 use mathlib.Core.Path.{_≡_, refl, ap, sym, _∙_, subst}

@@ -1,4 +1,4 @@
--- Where a look settles and has found no such key, what was to be added is not in the live graph. Assumes nothing.
+-- Where a look settles and has found no such key, what was to be added is not in the live graph.
 use Prim.Native.Nat.{ℕ, _≤_, _<_}
 use mathlib.Core.Bool.{true, false}
 use mathlib.Core.Logic.{inl, inr}

@@ -1,4 +1,4 @@
--- A worker's record after a choice: it is the same, or the worker has taken its step, or it has taken up a request. Assumes nothing.
+-- A worker's record after a choice: it is the same, or the worker has taken its step, or it has taken up a request.
 use Prim.Native.Nat.{ℕ, _<_}
 use mathlib.Core.Bool.{false}
 use mathlib.Core.Logic.{inl, inr}

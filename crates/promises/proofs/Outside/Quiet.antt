@@ -1,4 +1,4 @@
--- While no other edge is on trial, no edge is put in: whoever puts one in has it on trial then. Assumes nothing.
+-- While no other edge is on trial, no edge is put in: whoever puts one in has it on trial then.
 use Prim.Native.Nat.{ℕ, zero, suc, _≤_, _<_}
 use mathlib.Core.List.{List}
 use mathlib.Core.Logic.{inl, inr}

@@ -1,4 +1,4 @@
--- What a step leaves: nothing new where it is refused, else what was decided; so a reply is one that was decided. Assumes nothing.
+-- What a step leaves: nothing new where it is refused, else what was decided; so a reply is one that was decided.
 use Prim.Native.Nat.{ℕ, _≤_, _<_}
 use mathlib.Core.Bool.{true}
 use mathlib.Core.Path.{_≡_, refl, ap, sym, _∙_}

@@ -1,4 +1,4 @@
--- Reply 7 is given at an edge on trial with the key asked for, which is the own edge of another worker, for the same pair. Assumes nothing.
+-- Reply 7 is given at an edge on trial with the key asked for, which is the own edge of another worker, for the same pair.
 use Prim.Native.Nat.{ℕ, _≤_, _<_}
 use mathlib.Core.Bool.{true}
 use mathlib.Core.Path.{_≡_, refl, ap, sym, _∙_}

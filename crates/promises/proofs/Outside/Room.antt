@@ -1,4 +1,4 @@
--- Reply 9 is decided exactly where a node is needed and none is left, and writes nothing. Assumes nothing.
+-- Reply 9 is decided exactly where a node is needed and none is left, and writes nothing.
 use Prim.Native.Nat.{ℕ}
 use mathlib.Core.Bool.{true}
 use mathlib.Core.Path.{_≡_, refl, _∙_}

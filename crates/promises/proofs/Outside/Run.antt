@@ -1,4 +1,4 @@
--- The machine beside each moment of a run, and that it makes one choice from each to the next. Assumes nothing.
+-- The machine beside each moment of a run, and that it makes one choice from each to the next.
 use Prim.Native.Nat.{ℕ, suc}
 use mathlib.Core.List.{List}
 use mathlib.Core.Path.{_≡_, refl, ap}

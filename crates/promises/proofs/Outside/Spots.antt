@@ -1,4 +1,4 @@
--- The spot of a worker whose place is known, and the other way round. Assumes nothing.
+-- The spot of a worker whose place is known, and the other way round.
 use Prim.Native.Nat.{ℕ, _≤_, _<_}
 use mathlib.Core.Bool.{true, false}
 use mathlib.Core.Logic.{inl, inr}

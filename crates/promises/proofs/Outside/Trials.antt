@@ -1,4 +1,4 @@
--- A worker that tries has put its edge in with some choice, and has tried ever since: by induction on the choices. Assumes nothing.
+-- A worker that tries has put its edge in with some choice, and has tried ever since: by induction on the choices.
 use Prim.Native.Nat.{ℕ, zero, suc, _<_}
 use mathlib.Core.List.{List}
 use mathlib.Core.Logic.{inl, inr}

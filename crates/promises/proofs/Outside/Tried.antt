@@ -1,5 +1,5 @@
 -- The edges on trial are the own edges of the workers that try: the machine's invariant says so of its tags, and a list of the catalogue holds whatever is not
--- marked of its vertex's edges. Assumes nothing.
+-- marked of its vertex's edges.
 use Prim.Native.Nat.{ℕ, _≤_, _<_}
 use mathlib.Core.Logic.{inl, inr}
 use mathlib.Core.Path.{_≡_, refl, ap, sym, _∙_, subst}

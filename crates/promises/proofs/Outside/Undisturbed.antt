@@ -1,5 +1,5 @@
 -- A trial that nothing disturbs crosses edges that were live when it began: no other was on trial then, and nobody puts one in. So its chain back to
--- the source is a walk of the live graph of that moment. Assumes nothing.
+-- the source is a walk of the live graph of that moment.
 use Prim.Native.Nat.{ℕ, _≤_, _<_}
 use mathlib.Core.Bool.{true, false}
 use mathlib.Core.List.{List}

@@ -1,4 +1,4 @@
--- How a worker has come to stand in its trial with one choice: the trial has begun, or it was under way and took one of its kinds of step. Assumes nothing.
+-- How a worker has come to stand in its trial with one choice: the trial has begun, or it was under way and took one of its kinds of step.
 use Prim.Native.Nat.{ℕ, suc, _<_}
 use mathlib.Core.Bool.{false}
 use mathlib.Core.List.{List}

@@ -1,4 +1,4 @@
--- A run begins with the empty graph: the lines of the fresh catalogue are computed. Assumes nothing.
+-- A run begins with the empty graph: the lines of the fresh catalogue are computed.
 use mathlib.Core.Path.{_≡_, refl}
 use Rattle.catalogue.specs.Catalogue.{fresh}
 use Rattle.catalogue.specs.Runs.{after}

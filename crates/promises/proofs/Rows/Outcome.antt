@@ -1,4 +1,4 @@
--- A call alone has at most one outcome, and has one wherever it can be told whether a walk leads from one series to another; and in a live graph it can. Assumes nothing.
+-- A call alone has at most one outcome, and has one wherever it can be told whether a walk leads from one series to another; and in a live graph it can.
 use Prim.Native.Nat.{ℕ}
 use mathlib.Core.Bool.{Bool, true, false}
 use mathlib.Core.Logic.{inl, inr}

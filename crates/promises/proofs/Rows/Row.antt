@@ -1,4 +1,4 @@
--- The history of a run is that of the machine that makes it, read as the run's; so each event of the run is one of those that make a row. Assumes nothing.
+-- The history of a run is that of the machine that makes it, read as the run's; so each event of the run is one of those that make a row.
 use Prim.Native.Nat.{ℕ, zero, suc}
 use mathlib.Core.Bool.{Bool, true, false, not, _&&_, _||_}
 use mathlib.Core.List.{List}

@@ -1,4 +1,4 @@
--- What the machine's calls do alone is what the sequential catalogue allows. Assumes nothing.
+-- What the machine's calls do alone is what the sequential catalogue allows.
 use Prim.Native.Nat.{ℕ}
 use mathlib.Core.Bool.{Bool, true, false, cond, _&&_}
 use mathlib.Core.Path.{_≡_, refl, sym, ap, ap₂, _∙_, subst, fun-ext}

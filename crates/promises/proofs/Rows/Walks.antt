@@ -1,4 +1,4 @@
--- Whether a walk leads from one series to another can be told, line by line: a walk that may use one line more uses it, or needs it not. Assumes nothing.
+-- Whether a walk leads from one series to another can be told, line by line: a walk that may use one line more uses it, or needs it not.
 use mathlib.Core.Bool.{Bool, true, false}
 use mathlib.Core.List.{List, [], _∷_}
 use mathlib.Core.Logic.{_⊎_, inl, inr}

@@ -1,4 +1,4 @@
--- What is known of a script that was read: at most eight workers, and keys of 32 bits. Assumes nothing.
+-- What is known of a script that was read: at most eight workers, and keys of 32 bits.
 use Prim.Native.Nat.{ℕ, zero, suc, _≤_}
 use mathlib.Core.Bool.{Bool, true, false}
 use mathlib.Core.List.{List, [], _∷_}

@@ -1,4 +1,4 @@
--- What holds at every moment of a run, for each of them is held. Assumes nothing.
+-- What holds at every moment of a run, for each of them is held.
 use Prim.Native.Nat.{ℕ}
 use mathlib.Core.List.{List}
 use lib.ListN.{length}

@@ -1,4 +1,4 @@
--- What is shown of every call: the machine makes a choice of its own that leaves the same and answers the same. A refused call changes nothing. Assumes nothing.
+-- What is shown of every call: the machine makes a choice of its own that leaves the same and answers the same. A refused call changes nothing.
 use Prim.Native.Nat.{ℕ, _≤_, _<_}
 use mathlib.Core.Bool.{true}
 use mathlib.Core.Option.{Option, none}

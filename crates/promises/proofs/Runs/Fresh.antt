@@ -1,4 +1,4 @@
--- The fresh catalogue shows the machine's empty world, and idle workers show that all rest. Assumes nothing.
+-- The fresh catalogue shows the machine's empty world, and idle workers show that all rest.
 use Prim.Native.Nat.{ℕ, zero, suc, _<_}
 use mathlib.Core.Path.{_≡_, refl}
 use native.Mathlib.Omega.{arith}

@@ -1,4 +1,4 @@
--- What holds between two choices: the catalogue shows a good world, and each worker's record shows its spot there. Assumes nothing.
+-- What holds between two choices: the catalogue shows a good world, and each worker's record shows its spot there.
 use Prim.Native.Nat.{ℕ, _≤_, _<_}
 use mathlib.Core.Bool.{true, false, not}
 use mathlib.Core.Path.{_≡_, refl, _∙_}

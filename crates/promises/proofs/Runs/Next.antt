@@ -1,4 +1,4 @@
--- After every choice of the host the machine has a choice of its own: by the kind of the choice. Assumes nothing.
+-- After every choice of the host the machine has a choice of its own: by the kind of the choice.
 use Prim.Native.Nat.{ℕ, _≤_}
 use Rattle.catalogue.specs.Runs.{Choice, takes, steps, sweeps, Moment, choose}
 use Rattle.row.specs.Machine.Runs.{Conf, act}

@@ -1,4 +1,4 @@
--- The machine's choices over a whole run, and what holds before each of them. Past the end of the list the host is refused, so nothing changes. Assumes nothing.
+-- The machine's choices over a whole run, and what holds before each of them. Past the end of the list the host is refused, so nothing changes.
 use Prim.Native.Nat.{ℕ, zero, suc}
 use mathlib.Core.Bool.{false}
 use mathlib.Core.List.{List, [], _∷_}

@@ -1,4 +1,4 @@
--- Playing a script is making choices: each turn of the schedule is one, or none where an idle worker has no request left. Assumes nothing.
+-- Playing a script is making choices: each turn of the schedule is one, or none where an idle worker has no request left.
 use Prim.Native.Nat.{ℕ, zero, suc}
 use mathlib.Core.Bool.{Bool, true, false}
 use mathlib.Core.List.{List, [], _∷_, _++_, map, map-append, append-assoc, append-nil}

@@ -1,4 +1,4 @@
--- A choice to step: where it is refused nothing changes, and else the machine makes the same move. Assumes nothing.
+-- A choice to step: where it is refused nothing changes, and else the machine makes the same move.
 use Prim.Native.Nat.{ℕ, suc, _≤_, _<_}
 use mathlib.Core.Bool.{true, not}
 use mathlib.Core.Option.{Option, none, some}

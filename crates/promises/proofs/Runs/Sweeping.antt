@@ -1,4 +1,4 @@
--- A choice to sweep: where somebody is busy it is refused, and else the machine goes on from the swept world. Assumes nothing.
+-- A choice to sweep: where somebody is busy it is refused, and else the machine goes on from the swept world.
 use Prim.Native.Nat.{ℕ, zero, suc, _≤_, _<_}
 use mathlib.Core.Bool.{Bool, true, false, not}
 use mathlib.Core.Option.{none}

@@ -1,4 +1,4 @@
--- A choice to take up a request: where it is refused nothing changes, and else the machine's worker stands where the request begins. Assumes nothing.
+-- A choice to take up a request: where it is refused nothing changes, and else the machine's worker stands where the request begins.
 use Prim.Native.Nat.{ℕ, zero, suc, _≤_, _<_}
 use mathlib.Core.Bool.{Bool, true, false, cond, not, _&&_}
 use mathlib.Core.Option.{none, some}

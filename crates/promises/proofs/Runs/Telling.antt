@@ -1,4 +1,4 @@
--- The machine's requests, calls and graphs read as those of a run, and what it is for both to tell the same of one choice. Assumes nothing.
+-- The machine's requests, calls and graphs read as those of a run, and what it is for both to tell the same of one choice.
 use Prim.Native.Nat.{ℕ}
 use mathlib.Core.Option.{Option, none, some}
 use mathlib.Core.Path.{_≡_}

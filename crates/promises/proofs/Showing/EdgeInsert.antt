@@ -1,4 +1,4 @@
--- A new edge: it is filled, on trial, while nobody's link leads to it; then the link behind p is turned to it. Assumes nothing.
+-- A new edge: it is filled, on trial, while nobody's link leads to it; then the link behind p is turned to it.
 use Prim.Native.Nat.{ℕ, suc, _≤_, _<_}
 use mathlib.Core.Path.{_≡_, refl, _∙_}
 use mathlib.Core.Logic.{inl, inr}

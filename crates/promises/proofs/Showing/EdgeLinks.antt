@@ -1,4 +1,4 @@
--- The link of an edge, or the first-edge link of a vertex, is written: another tag, or another node behind p. Assumes nothing.
+-- The link of an edge, or the first-edge link of a vertex, is written: another tag, or another node behind p.
 use Prim.Native.Nat.{ℕ, _≤_, _<_}
 use mathlib.Core.Path.{_≡_, _∙_}
 use mathlib.Core.Logic.{inl, inr}

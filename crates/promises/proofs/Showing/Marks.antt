@@ -1,4 +1,4 @@
--- The tests of tags are those of the world, and so are the marks that a step reads: of one vertex, and of u and v. Assumes nothing.
+-- The tests of tags are those of the world, and so are the marks that a step reads: of one vertex, and of u and v.
 use Prim.Native.Nat.{ℕ}
 use mathlib.Core.Bool.{Bool, true, false, cond, _||_}
 use mathlib.Core.Path.{_≡_, refl, _∙_}

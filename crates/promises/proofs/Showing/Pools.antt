@@ -1,4 +1,4 @@
--- What the pools have handed out, and which node is the next. Assumes nothing.
+-- What the pools have handed out, and which node is the next.
 use Prim.Native.Nat.{ℕ, _+_, _≤_, _<_}
 use mathlib.Core.Path.{_≡_}
 use native.Mathlib.Omega.{arith}

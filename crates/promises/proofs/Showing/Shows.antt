@@ -1,5 +1,5 @@
 -- How a catalogue of document 01 and a worker's record show the world and the spot of the machine of `row`: every word that is handed out is a whole link,
--- and says what the world says. What is not handed out may be anything. Assumes nothing.
+-- and says what the world says. What is not handed out may be anything.
 use Prim.Native.Nat.{ℕ, _+_, _≤_, _<_}
 use mathlib.Core.Bool.{Bool, true, false}
 use mathlib.Core.List.{List}

@@ -1,4 +1,4 @@
--- Which node of a list of edges is not its tail: such a node is handed out. Assumes nothing.
+-- Which node of a list of edges is not its tail: such a node is handed out.
 use Prim.Native.Nat.{ℕ}
 use mathlib.Core.Path.{_≡_}
 use mathlib.Core.Logic.{_⊎_, inl, inr}

@@ -1,4 +1,4 @@
--- The definitions nest tests where the machine joins them. Assumes nothing.
+-- The definitions nest tests where the machine joins them.
 use mathlib.Core.Bool.{Bool, true, false, cond, not, _&&_, _||_}
 use mathlib.Core.Path.{_≡_, refl}
 use Rattle.catalogue.specs.Tests.{pick}

@@ -1,4 +1,4 @@
--- One node's link is written: its next or its tag is another, and every other node's link is as before. Assumes nothing.
+-- One node's link is written: its next or its tag is another, and every other node's link is as before.
 use Prim.Native.Nat.{ℕ}
 use mathlib.Core.Path.{_≡_, refl, ap}
 use mathlib.Core.Logic.{_⊎_, inl, inr}

@@ -1,4 +1,4 @@
--- The three writes on vertices: a mark, a link past a vertex, and a new vertex. Each shows the world that `row` makes of it. Assumes nothing.
+-- The three writes on vertices: a mark, a link past a vertex, and a new vertex. Each shows the world that `row` makes of it.
 use Prim.Native.Nat.{ℕ, suc, _+_, _≤_, _<_}
 use mathlib.Core.Bool.{Bool, true, false}
 use mathlib.Core.Path.{_≡_, _∙_}

@@ -1,4 +1,4 @@
--- The sum of a function over the numbers below a bound that pass a test, and over a list. Assumes nothing.
+-- The sum of a function over the numbers below a bound that pass a test, and over a list.
 use Prim.Native.Nat.{ℕ, zero, suc, _+_, _*_, _<_}
 use mathlib.Core.Bool.{Bool, true, false}
 use mathlib.Core.List.{List, [], _∷_, _++_}

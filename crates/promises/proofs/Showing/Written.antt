@@ -1,4 +1,4 @@
--- What is read where a link, a key or a target was written, and elsewhere. Assumes nothing.
+-- What is read where a link, a key or a target was written, and elsewhere.
 use Prim.Native.Nat.{ℕ, _≤_, _<_}
 use mathlib.Core.Bool.{Bool, true, false}
 use mathlib.Core.Path.{_≡_, refl}

@@ -1,5 +1,5 @@
 -- One step of ConE among the edges of u is one move of the machine of `row`. The machine asks for the marks of u and v first, the definition last; both
--- reply 1 only if all is as asked, and else 8. Assumes nothing.
+-- reply 1 only if all is as asked, and else 8.
 use Prim.Native.Nat.{ℕ, _≤_, _<_}
 use mathlib.Core.Bool.{Bool, true, false, cond, _&&_, _||_}
 use mathlib.Core.Path.{_≡_, refl, _∙_}

@@ -1,4 +1,4 @@
--- A step at a known place decides by that place, and a decision to go on, or to reply, is a move of the machine. Assumes nothing.
+-- A step at a known place decides by that place, and a decision to go on, or to reply, is a move of the machine.
 use Prim.Native.Nat.{ℕ}
 use mathlib.Core.Bool.{Bool, true, false, cond}
 use mathlib.Core.Path.{_≡_, refl}

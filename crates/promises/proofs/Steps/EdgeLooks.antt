@@ -1,4 +1,4 @@
--- One look of AddE and RemE: what document 01's catalogue lets a worker see is what the world does. Assumes nothing.
+-- One look of AddE and RemE: what document 01's catalogue lets a worker see is what the world does.
 use Prim.Native.Nat.{ℕ, _<_}
 use mathlib.Core.Bool.{Bool, true, false, cond, not, _&&_, _||_}
 use mathlib.Core.Path.{_≡_, refl, ap, _∙_}

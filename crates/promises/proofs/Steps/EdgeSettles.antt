@@ -1,4 +1,4 @@
--- How AddE and RemE settle at c, whose key is not below theirs. Assumes nothing.
+-- How AddE and RemE settle at c, whose key is not below theirs.
 use Prim.Native.Nat.{ℕ, _≤_, _<_}
 use mathlib.Core.Bool.{Bool, true, false}
 use mathlib.Core.Path.{_≡_, refl}

@@ -1,4 +1,4 @@
--- One step of AddE and RemE at p and c is one move of the machine. Assumes nothing.
+-- One step of AddE and RemE at p and c is one move of the machine.
 use Prim.Native.Nat.{ℕ, _≤_, _<_}
 use mathlib.Core.Bool.{Bool, true, false}
 use mathlib.Core.Path.{_≡_, refl}

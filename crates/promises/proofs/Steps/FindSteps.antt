@@ -1,4 +1,4 @@
--- One step of finding u, or v, for AddE, RemE or ConE is one move of the machine of `row`. Assumes nothing.
+-- One step of finding u, or v, for AddE, RemE or ConE is one move of the machine of `row`.
 use Prim.Native.Nat.{ℕ, _<_}
 use mathlib.Core.Bool.{true, false}
 use mathlib.Core.Path.{_≡_, refl, _∙_}

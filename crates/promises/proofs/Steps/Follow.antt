@@ -1,4 +1,4 @@
--- One step of document 01, at any spot but rest, is one move of the machine of `row`. Assumes nothing.
+-- One step of document 01, at any spot but rest, is one move of the machine of `row`.
 use mathlib.Core.Path.{_≡_, refl}
 use Rattle.row.specs.Machine.World.{Spot, Rest, Vert, FindU, FindV, LookE, ConE, Trial}
 use Rattle.promises.proofs.Steps.Deciding.{FollowsAt}

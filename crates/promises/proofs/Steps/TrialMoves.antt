@@ -1,4 +1,4 @@
--- The four things that a step of a trial may do, each beside the machine's: stay, meet a vertex, take the front of the queue, end. Assumes nothing.
+-- The four things that a step of a trial may do, each beside the machine's: stay, meet a vertex, take the front of the queue, end.
 use Prim.Native.Nat.{ℕ, _≤_, _<_}
 use mathlib.Core.Bool.{false}
 use mathlib.Core.List.{List, _∷_}

@@ -1,4 +1,4 @@
--- A step of a trial is the machine's: the same marks, tags and met vertices decide both, and the queue has room for whoever is met. Assumes nothing.
+-- A step of a trial is the machine's: the same marks, tags and met vertices decide both, and the queue has room for whoever is met.
 use Prim.Native.Nat.{ℕ}
 use mathlib.Core.Bool.{Bool, true, false, cond, not, _&&_, _||_}
 use mathlib.Core.List.{List, [], _∷_}

@@ -1,4 +1,4 @@
--- A look at the vertices sees in the catalogue what the machine of `row` sees in the world that it shows. Assumes nothing.
+-- A look at the vertices sees in the catalogue what the machine of `row` sees in the world that it shows.
 use Prim.Native.Nat.{ℕ, _<_}
 use mathlib.Core.Bool.{Bool, true, false, cond, not, _&&_}
 use mathlib.Core.Path.{_≡_, refl, ap}

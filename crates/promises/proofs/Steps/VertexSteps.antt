@@ -1,4 +1,4 @@
--- One step of AddV, RemV or ConV is one move of the machine of `row`. Assumes nothing.
+-- One step of AddV, RemV or ConV is one move of the machine of `row`.
 use Prim.Native.Nat.{ℕ, _+_, _<_}
 use mathlib.Core.Bool.{Bool, true, false, cond, not, _&&_}
 use mathlib.Core.Path.{_≡_, refl, _∙_}

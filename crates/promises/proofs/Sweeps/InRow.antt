@@ -1,4 +1,4 @@
--- A list whose nodes have their numbers in a row, each leading to the one after it, is sorted if its keys rise. Assumes nothing.
+-- A list whose nodes have their numbers in a row, each leading to the one after it, is sorted if its keys rise.
 use Prim.Native.Nat.{ℕ, zero, suc, _+_, _-_, _≤_, _<_}
 use mathlib.Core.Logic.{inl, inr}
 use mathlib.Core.Path.{_≡_, refl, sym, ap, _∙_}

@@ -1,4 +1,4 @@
--- The edge lists of the world after a sweep are sorted, because the numbers of each vertex's edges stand in a row; and every edge has its ends. Assumes nothing.
+-- The edge lists of the world after a sweep are sorted, because the numbers of each vertex's edges stand in a row; and every edge has its ends.
 use Prim.Native.Nat.{ℕ, _+_, _≤_, _<_}
 use mathlib.Core.Bool.{true, false}
 use mathlib.Core.List.{List, _∷_, _++_}

@@ -1,4 +1,4 @@
--- The vertex in whose list an edge of a swept catalogue stands, found by how many live edges each vertex has. Assumes nothing.
+-- The vertex in whose list an edge of a swept catalogue stands, found by how many live edges each vertex has.
 use Prim.Native.Nat.{ℕ, suc, _+_, _≤_, _<_}
 use mathlib.Core.List.{List, [], _∷_, _++_}
 use mathlib.Core.Path.{_≡_, refl, sym, _∙_}

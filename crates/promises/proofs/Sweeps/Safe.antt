@@ -1,4 +1,4 @@
--- No walk over the edges of a swept catalogue comes back to where it began: it would be a walk in the live graph of before. Assumes nothing.
+-- No walk over the edges of a swept catalogue comes back to where it began: it would be a walk in the live graph of before.
 use Prim.Native.Nat.{ℕ, _+_, _≤_, _<_}
 use mathlib.Core.Bool.{true}
 use mathlib.Core.List.{[], _∷_}

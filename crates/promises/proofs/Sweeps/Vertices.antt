@@ -1,4 +1,4 @@
--- The vertex list of the world after a sweep is sorted: its numbers stand in a row, and their keys rise because a swept catalogue is sound. Assumes nothing.
+-- The vertex list of the world after a sweep is sorted: its numbers stand in a row, and their keys rise because a swept catalogue is sound.
 use Prim.Native.Nat.{ℕ, _+_, _≤_, _<_}
 use mathlib.Core.Bool.{true}
 use mathlib.Core.Logic.{inl, inr}

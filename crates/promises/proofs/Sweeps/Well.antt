@@ -1,4 +1,4 @@
--- After a sweep the catalogue again shows a good world, without an edge on trial, and the graph is that of before. Assumes nothing.
+-- After a sweep the catalogue again shows a good world, without an edge on trial, and the graph is that of before.
 use mathlib.Core.Bool.{true}
 use mathlib.Core.List.{[], _∷_}
 use mathlib.Core.Path.{_≡_, refl, sym, ap, ap₂, _∙_, fun-ext}

@@ -1,4 +1,4 @@
--- The world that a swept catalogue shows: its lists as they are read, every edge in the list of its owner. Assumes nothing.
+-- The world that a swept catalogue shows: its lists as they are read, every edge in the list of its owner.
 use Prim.Native.Nat.{ℕ, _+_, _≤_, _<_}
 use mathlib.Core.Bool.{true, false}
 use mathlib.Core.List.{List, _∷_, _++_}

@@ -1,4 +1,4 @@
--- What each change of the lists does to the edges of the live graph. Assumes nothing.
+-- What each change of the lists does to the edges of the live graph.
 use Prim.Native.Nat.{ℕ, _≤_, _<_}
 use mathlib.Core.Bool.{Bool, true, false, _&&_}
 use mathlib.Core.Path.{_≡_, refl, sym, ap, _∙_, fun-ext}

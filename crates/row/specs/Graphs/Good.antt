@@ -1,4 +1,4 @@
--- A good world: both kinds of lists are sound, each edge joins two vertices, and `Safe` holds. Assumes nothing.
+-- A good world: both kinds of lists are sound, each edge joins two vertices, and `Safe` holds.
 use Prim.Native.Nat.{ℕ, _≤_, _<_}
 use mathlib.Core.Path.{_≡_}
 use Rattle.row.specs.Lists.Store.{Good}

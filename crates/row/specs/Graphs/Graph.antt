@@ -1,4 +1,4 @@
--- The live graph of a world: when an edge is in it, and which node it is. Assumes nothing.
+-- The live graph of a world: when an edge is in it, and which node it is.
 use Prim.Native.Nat.{ℕ, zero, suc, _≤_, _<_}
 use mathlib.Core.Bool.{Bool, true, false, cond, not, _&&_}
 use mathlib.Core.Path.{_≡_, refl, sym, _∙_}

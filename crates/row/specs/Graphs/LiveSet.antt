@@ -1,4 +1,4 @@
--- The live set: when a key is in it, and what each change of the vertex list does to it. Assumes nothing.
+-- The live set: when a key is in it, and what each change of the vertex list does to it.
 use Prim.Native.Nat.{ℕ, zero, suc, _≤_, _<_}
 use mathlib.Core.Bool.{Bool, true, false, cond, not, _&&_}
 use mathlib.Core.Path.{_≡_, refl, sym, ap, _∙_, fun-ext}

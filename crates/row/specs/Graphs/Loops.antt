@@ -1,4 +1,4 @@
--- The live graph of a good world has no loop: a walk over keys is a walk over nodes, and `Safe` leaves no closed one. Assumes nothing.
+-- The live graph of a good world has no loop: a walk over keys is a walk over nodes, and `Safe` leaves no closed one.
 use Prim.Native.Nat.{ℕ, _<_}
 use mathlib.Core.Bool.{Bool, true, false}
 use mathlib.Core.Path.{_≡_, sym, _∙_}

@@ -1,5 +1,5 @@
 -- Walks over edge nodes. `Safe`: no walk over older edges leads from an added edge's end to its start. Then no closed walk over added edges:
--- the newest edge of one would be such. Assumes nothing.
+-- the newest edge of one would be such.
 use Prim.Native.Nat.{ℕ, zero, suc, _≤_, _<_}
 use mathlib.Core.Bool.{false}
 use mathlib.Core.Path.{_≡_, refl, sym, ap, _∙_}

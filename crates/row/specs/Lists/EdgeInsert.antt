@@ -1,4 +1,4 @@
--- An edge inserted, for every list at once: all stay sorted, and it is one of the moves that hindsight asks for. Assumes nothing.
+-- An edge inserted, for every list at once: all stay sorted, and it is one of the moves that hindsight asks for.
 use Prim.Native.Nat.{ℕ, _<_}
 use mathlib.Core.Bool.{false}
 use mathlib.Core.Path.{_≡_, refl, sym, ap, _∙_}

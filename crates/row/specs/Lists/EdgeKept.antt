@@ -1,4 +1,4 @@
--- An edge's tag changed; and every change of the edge lists keeps them `ESound`, and is one of the moves that hindsight asks for. Assumes nothing.
+-- An edge's tag changed; and every change of the edge lists keeps them `ESound`, and is one of the moves that hindsight asks for.
 use Prim.Native.Nat.{ℕ}
 use mathlib.Core.Bool.{true, false}
 use mathlib.Core.Path.{_≡_, refl, sym, ap, _∙_}

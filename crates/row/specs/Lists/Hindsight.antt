@@ -1,4 +1,4 @@
--- Hindsight: what a walker that passed over a list in the course of time may say of moments in the past. Assumes nothing.
+-- Hindsight: what a walker that passed over a list in the course of time may say of moments in the past.
 use Prim.Native.Nat.{ℕ, zero, suc, _≤_, _<_}
 use mathlib.Core.Bool.{Bool, true, false}
 use mathlib.Core.Path.{_≡_, refl, sym, _∙_}

@@ -1,4 +1,4 @@
--- Every change of the vertex list keeps it `Sound`, and is one of the moves that hindsight asks for. Assumes nothing.
+-- Every change of the vertex list keeps it `Sound`, and is one of the moves that hindsight asks for.
 use mathlib.Core.Path.{refl, _∙_}
 use native.Mathlib.Omega.{arith}
 use mathlib.Core.Logic.{inl}

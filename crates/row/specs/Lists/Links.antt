@@ -1,4 +1,4 @@
--- One linked list, seen from outside: runs, rising keys, what is live. It serves the vertex list and each edge list. Assumes nothing.
+-- One linked list, seen from outside: runs, rising keys, what is live. It serves the vertex list and each edge list.
 use mathlib.Core.Bool.{Bool, true, false}
 use mathlib.Core.Path.{_≡_, sym, ap}
 use mathlib.Core.Logic.{_⊎_, inl, inr}

@@ -1,4 +1,4 @@
--- A vertex marked: the list stays `Sound`, and this is one of the moves that hindsight asks for. Assumes nothing.
+-- A vertex marked: the list stays `Sound`, and this is one of the moves that hindsight asks for.
 use Prim.Native.Nat.{ℕ}
 use mathlib.Core.Bool.{true, false}
 use mathlib.Core.Path.{_≡_, refl, sym, _∙_}

@@ -1,4 +1,4 @@
--- A vertex passed over: the list stays `Sound`, and this is one of the moves that hindsight asks for. Assumes nothing.
+-- A vertex passed over: the list stays `Sound`, and this is one of the moves that hindsight asks for.
 use Prim.Native.Nat.{ℕ, _<_}
 use mathlib.Core.Bool.{false}
 use mathlib.Core.Path.{_≡_, refl, ap, _∙_}

@@ -1,4 +1,4 @@
--- One step of each of the six operations. Nothing is proved here. Assumes nothing.
+-- One step of each of the six operations. Nothing is proved here.
 use Prim.Native.Nat.{ℕ}
 use mathlib.Core.Bool.{Bool, true, false, cond, not, _&&_, _||_}
 use mathlib.Core.List.{List, [], _∷_}

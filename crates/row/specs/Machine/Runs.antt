@@ -1,5 +1,5 @@
 -- Choices, the runs that they make, and a run's history. A sweep's result is the chooser's: `Honest` asks that it be good, have the same live
--- graph and no edge on trial. Nothing is proved here. Assumes nothing.
+-- graph and no edge on trial. Nothing is proved here.
 use Prim.Native.Nat.{ℕ, zero, suc}
 use mathlib.Core.Bool.{Bool, true, false, cond, _&&_}
 use mathlib.Core.Path.{_≡_}

@@ -1,5 +1,4 @@
 -- The vertex operations AddV, RemV and ConV, step by step; the live set, and what a call does to it alone. Nothing is proved here.
--- Assumes nothing.
 use Prim.Native.Nat.{ℕ, zero, suc}
 use mathlib.Core.Bool.{Bool, true, false, cond, not, _&&_}
 use mathlib.Core.Option.{Option, none, some}

@@ -1,5 +1,5 @@
 -- A world: the vertex list and the edge lists; what a worker may be asked and where it may stand; the live graph, and what a call does to it alone.
--- Nothing is proved here. Assumes nothing.
+-- Nothing is proved here.
 use Prim.Native.Nat.{ℕ, zero, suc, _≤_, _<_}
 use mathlib.Core.Bool.{Bool, true, false, cond, not, _&&_, _||_}
 use mathlib.Core.Path.{_≡_}

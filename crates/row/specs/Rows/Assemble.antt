@@ -1,4 +1,4 @@
--- The row is put together: for t = 0, 1, .. the calls placed at t, in the order of their events. Assumes nothing.
+-- The row is put together: for t = 0, 1, .. the calls placed at t, in the order of their events.
 use Prim.Native.Nat.{ℕ, zero, suc, _+_, _≤_, _<_}
 use mathlib.Core.Bool.{Bool, true, cond}
 use mathlib.Core.Path.{_≡_, refl, sym, _∙_}

@@ -1,5 +1,5 @@
 -- The statement "all answered calls stand in one row", for any object: graphs G, requests, replies, and what one call does
--- when it is alone. Nothing is proved here. Assumes nothing.
+-- when it is alone. Nothing is proved here.
 use Prim.Native.Nat.{ℕ, suc, _+_, _≤_}
 use mathlib.Core.Bool.{Bool, true, false, cond}
 use mathlib.Core.Path.{_≡_}

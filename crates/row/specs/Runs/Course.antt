@@ -1,4 +1,4 @@
--- The invariant `Fine` of the world and all workers' spots holds at every moment of every run. Assumes nothing.
+-- The invariant `Fine` of the world and all workers' spots holds at every moment of every run.
 use Prim.Native.Nat.{ℕ, zero, suc, _≤_, _<_}
 use mathlib.Core.Bool.{Bool, true, false, cond, _&&_}
 use mathlib.Core.Path.{_≡_, refl, sym, ap, _∙_}

@@ -1,4 +1,4 @@
--- Each event of a run is quiet, acts, or looks: what a walker found on its way shows the moment in the past that a late reply rests on. Assumes nothing.
+-- Each event of a run is quiet, acts, or looks: what a walker found on its way shows the moment in the past that a late reply rests on.
 use Prim.Native.Nat.{ℕ, zero, suc, _≤_, _<_}
 use mathlib.Core.Bool.{Bool, true, false, cond, _&&_, and-false}
 use mathlib.Core.Path.{_≡_, refl, sym, ap, _∙_}

@@ -1,4 +1,4 @@
--- A deed: what a step does to the world, as far as the other workers go; what is known of them stays so. Assumes nothing.
+-- A deed: what a step does to the world, as far as the other workers go; what is known of them stays so.
 use Prim.Native.Nat.{ℕ, _≤_, _<_}
 use mathlib.Core.Path.{_≡_, sym, _∙_}
 use mathlib.Core.Logic.{inl, inr}

@@ -1,4 +1,4 @@
--- Every step of every operation has one of the outcomes, whatever the history. Assumes nothing.
+-- Every step of every operation has one of the outcomes, whatever the history.
 use Prim.Native.Nat.{ℕ}
 use mathlib.Core.Bool.{Bool, true, false, cond, not, _&&_, _||_}
 use mathlib.Core.Path.{_≡_, refl, sym, ap, _∙_}

@@ -1,4 +1,4 @@
--- What a look at an edge list tells. Assumes nothing.
+-- What a look at an edge list tells.
 use Prim.Native.Nat.{ℕ}
 use mathlib.Core.Bool.{Bool, true, false, cond, not, _&&_, _||_}
 use mathlib.Core.Path.{_≡_, refl, ap}

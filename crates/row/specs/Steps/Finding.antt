@@ -1,4 +1,4 @@
--- A step on the way to the two vertices of a pair has one of the outcomes. Assumes nothing.
+-- A step on the way to the two vertices of a pair has one of the outcomes.
 use Prim.Native.Nat.{ℕ, _<_}
 use mathlib.Core.Bool.{Bool, true, false, cond, not, _&&_}
 use mathlib.Core.Path.{_≡_, refl}

@@ -1,4 +1,4 @@
--- Each step of a trial's search keeps what the search knows; when its queue is empty, no walk over older edges leads from v to u. Assumes nothing.
+-- Each step of a trial's search keeps what the search knows; when its queue is empty, no walk over older edges leads from v to u.
 use Prim.Native.Nat.{ℕ, _<_}
 use mathlib.Core.Bool.{true, false}
 use mathlib.Core.Path.{_≡_, refl, sym, ap, _∙_}

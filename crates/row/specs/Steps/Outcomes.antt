@@ -1,4 +1,4 @@
--- What one step of one worker may come to, for all six operations, whatever the history. Assumes nothing.
+-- What one step of one worker may come to, for all six operations, whatever the history.
 use Prim.Native.Nat.{ℕ, _<_}
 use mathlib.Core.Bool.{Bool, true, false}
 use mathlib.Core.Path.{_≡_, refl}

@@ -1,4 +1,4 @@
--- What is known of a worker by where it stands. Assumes nothing.
+-- What is known of a worker by where it stands.
 use Prim.Native.Nat.{ℕ, _≤_, _<_}
 use mathlib.Core.Bool.{Bool, true, false}
 use mathlib.Core.Path.{_≡_}

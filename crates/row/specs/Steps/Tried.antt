@@ -1,4 +1,4 @@
--- An edge on trial after a step is the worker's own then, or was on trial before and is none that the worker gave up. Assumes nothing.
+-- An edge on trial after a step is the worker's own then, or was on trial before and is none that the worker gave up.
 use Prim.Native.Nat.{ℕ}
 use mathlib.Core.Bool.{Bool, true, false, cond, not, _&&_, _||_}
 use mathlib.Core.Path.{_≡_, refl, sym, _∙_}

@@ -1,4 +1,4 @@
--- What one step of a vertex operation does to a good list, by cases, whatever the history; and that the fresh list is good. Assumes nothing.
+-- What one step of a vertex operation does to a good list, by cases, whatever the history; and that the fresh list is good.
 use Prim.Native.Nat.{ℕ, _<_}
 use mathlib.Core.Bool.{Bool, true, false, cond, not, _&&_}
 use mathlib.Core.Path.{_≡_, refl, sym}

@@ -1,4 +1,4 @@
--- A step of a vertex operation has one of the outcomes in the whole world. Assumes nothing.
+-- A step of a vertex operation has one of the outcomes in the whole world.
 use mathlib.Core.Bool.{Bool}
 use mathlib.Core.Path.{_≡_, refl, sym, ap, _∙_}
 use mathlib.Core.Logic.{inl, inr}

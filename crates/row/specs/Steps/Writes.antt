@@ -1,4 +1,4 @@
--- Each write to a good world is a deed: it leaves the world good, and safe from loops. Assumes nothing.
+-- Each write to a good world is a deed: it leaves the world good, and safe from loops.
 use Prim.Native.Nat.{ℕ, suc, _≤_, _<_}
 use mathlib.Core.Path.{_≡_, refl, sym, _∙_}
 use mathlib.Core.Logic.{_⊎_, inl, inr}

@@ -1,4 +1,4 @@
--- Each turn keeps what the request comes to, and leaves fewer steps. Assumes nothing.
+-- Each turn keeps what the request comes to, and leaves fewer steps.
 use mathlib.Core.Bool.{false}
 use mathlib.Core.Logic.{_⊎_, ⊎-elim, inl, inr}
 use mathlib.Core.Path.{_≡_, ap}

@@ -1,4 +1,4 @@
--- The arm of the reply is the case of the definition. Assumes nothing.
+-- The arm of the reply is the case of the definition.
 use borrow.Author.Needs.{needs}
 use Rattle.asking.proofs.TallyLaws.{tally-cases}
 use Rattle.asking.proofs.tally.counted.Statement.{statement}

@@ -1,4 +1,4 @@
--- Nothing is counted yet. Assumes nothing.
+-- Nothing is counted yet.
 use mathlib.Core.Path.{refl}
 use Rattle.asking.specs.Tallies.{none}
 use Rattle.asking.proofs.tally.none.Statement.{statement}

@@ -1,4 +1,4 @@
--- A number of 16 bits has an opposite of 32. Assumes nothing.
+-- A number of 16 bits has an opposite of 32.
 use native.Mathlib.Omega.{arith}
 use Rattle.script.proofs.KeyLaws.{plain-is, opposite-fits, opposite-is}
 use Rattle.asking.specs.Tallies.{key}

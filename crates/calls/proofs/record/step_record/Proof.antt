@@ -1,4 +1,4 @@
--- What was decided is written, kept in the record and answered. Assumes nothing.
+-- What was decided is written, kept in the record and answered.
 use Rattle.calls.proofs.Stepping.{record-step, written-is}
 use borrow.Author.Needs.{needs}
 use Rattle.calls.proofs.record.step_record.Statement.{statement}

@@ -1,4 +1,4 @@
--- Each way out is the case of the definition that its checks choose. Assumes nothing.
+-- Each way out is the case of the definition that its checks choose.
 use mathlib.Core.Bool.{Bool, true}
 use mathlib.Core.Path.{_≡_, refl, sym, _∙_}
 use denote.Ref.{now}

@@ -1,4 +1,4 @@
--- Each way out is the case of the definition that its checks choose. Assumes nothing.
+-- Each way out is the case of the definition that its checks choose.
 use Rattle.calls.proofs.Outcomes.{outcomes}
 use Rattle.catalogue.specs.Calls.{start-up}
 use borrow.Author.Needs.{needs}

@@ -1,4 +1,4 @@
--- Each way out is the case of the definition that its checks choose. Assumes nothing.
+-- Each way out is the case of the definition that its checks choose.
 use Rattle.memory.proofs.Sizes.{sized-flag}
 use Rattle.workers.proofs.CheckLaws.{below-flag}
 use Rattle.calls.proofs.Outcomes.{taking-up}

@@ -1,4 +1,4 @@
--- Each way out is the case of the definition that its tests and reads choose. Assumes nothing.
+-- Each way out is the case of the definition that its tests and reads choose.
 use Rattle.edges.proofs.Seen.{add-ways}
 use Rattle.catalogue.specs.Steps.Edges.{settle-add-edge}
 use borrow.Author.Needs.{needs}

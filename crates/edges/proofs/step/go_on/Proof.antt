@@ -1,4 +1,4 @@
--- Each way out is the case of the definition that its tests and reads choose. Assumes nothing.
+-- Each way out is the case of the definition that its tests and reads choose.
 use Rattle.edges.proofs.Seen.{edge-ways}
 use borrow.Author.Needs.{needs}
 use Rattle.edges.proofs.step.go_on.Statement.{statement}

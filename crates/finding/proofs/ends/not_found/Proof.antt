@@ -1,4 +1,4 @@
--- Each way out is the case of the definition that its tests and reads choose. Assumes nothing.
+-- Each way out is the case of the definition that its tests and reads choose.
 use Rattle.finding.proofs.Seen.{find-ways}
 use Rattle.catalogue.specs.Steps.Finding.{not-found}
 use Rattle.finding.proofs.ends.not_found.Statement.{statement}

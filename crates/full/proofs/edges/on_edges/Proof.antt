@@ -1,4 +1,4 @@
--- The vertices that are left become fewer at each turn. Assumes nothing.
+-- The vertices that are left become fewer at each turn.
 use mathlib.Core.Path.{_≡_}
 use Prim.Native.Nat.{_-_}
 use lib.ListN.{length}

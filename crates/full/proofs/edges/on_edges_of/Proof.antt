@@ -1,4 +1,4 @@
--- The target falls at each turn. Assumes nothing.
+-- The target falls at each turn.
 use mathlib.Core.Path.{_≡_}
 use lib.ListN.{length}
 use borrow.Author.Needs.{needs}

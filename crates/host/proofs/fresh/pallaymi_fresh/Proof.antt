@@ -1,4 +1,4 @@
--- The number is that of the answer, and both slices are as the covered call leaves them. Assumes nothing.
+-- The number is that of the answer, and both slices are as the covered call leaves them.
 use mathlib.Core.Path.{_∙_, ap}
 use Rattle.numbers.specs.Packing.{packed-made}
 use borrow.Author.Needs.{needs}

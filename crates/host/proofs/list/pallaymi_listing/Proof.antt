@@ -1,4 +1,4 @@
--- The number is that of the answer, and the output is as the covered call leaves it. Assumes nothing.
+-- The number is that of the answer, and the output is as the covered call leaves it.
 use mathlib.Core.Path.{_∙_, ap}
 use Rattle.numbers.specs.Packing.{packed-listed}
 use borrow.Author.Needs.{needs}

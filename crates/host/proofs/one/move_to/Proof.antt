@@ -1,4 +1,4 @@
--- The record and the number are what the callees make. Assumes nothing.
+-- The record and the number are what the callees make.
 use Rattle.host.proofs.Moves.{makes}
 use borrow.Author.Needs.{needs}
 use Rattle.host.proofs.one.move_to.Statement.{statement}

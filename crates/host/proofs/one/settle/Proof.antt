@@ -1,4 +1,4 @@
--- Each arm is the case of the definition for its answer. Assumes nothing.
+-- Each arm is the case of the definition for its answer.
 use Rattle.host.proofs.Moves.{makes}
 use Rattle.host.specs.Moves.{settled}
 use borrow.Author.Needs.{needs}

@@ -1,4 +1,4 @@
--- The place, the record and the number are what the callees make. Assumes nothing.
+-- The place, the record and the number are what the callees make.
 use Rattle.host.proofs.Starting.{starts}
 use borrow.Author.Needs.{needs}
 use Rattle.host.proofs.one.start_at.Statement.{statement}

@@ -1,4 +1,4 @@
--- Each way out is the case of the definition that its checks choose. Assumes nothing.
+-- Each way out is the case of the definition that its checks choose.
 use Rattle.host.proofs.Starting.{starts}
 use Rattle.host.specs.Moves.{start-one}
 use borrow.Author.Needs.{needs}

@@ -1,4 +1,4 @@
--- Each way out is the case of the definition that its checks choose, in any table that has the record. Assumes nothing.
+-- Each way out is the case of the definition that its checks choose, in any table that has the record.
 use mathlib.Core.Bool.{true}
 use mathlib.Core.Path.{_≡_, sym, _∙_}
 use mir.Facts.{toZ-ofZ}

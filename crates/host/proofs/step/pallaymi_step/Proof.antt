@@ -1,4 +1,4 @@
--- The worker's record is read out of the borrowed table and passed with the slices to the covered step, of which only its contract is known; what comes back is stored over the record, and the number is returned. A walk of the MIR by hand. Assumes nothing.
+-- The worker's record is read out of the borrowed table and passed with the slices to the covered step, of which only its contract is known; what comes back is stored over the record, and the number is returned. A walk of the MIR by hand.
 use mathlib.Core.Path.{_≡_, refl, _∙_, ap}
 use Prim.Native.Nat.{ℕ, _<_, _^_}
 use mathlib.Core.List.{[], _∷_, List}

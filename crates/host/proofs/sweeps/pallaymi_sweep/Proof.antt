@@ -1,4 +1,4 @@
--- The table is copied out of the shared reference and passed with the slices to the covered sweep, of which only its contract is known; the number that it tells is returned. A walk of the MIR by hand. Assumes nothing.
+-- The table is copied out of the shared reference and passed with the slices to the covered sweep, of which only its contract is known; the number that it tells is returned. A walk of the MIR by hand.
 use mathlib.Core.Path.{refl, ap}
 use Prim.Native.Nat.{ℕ, _<_, _^_}
 use mathlib.Core.List.{[], _∷_, List}

@@ -1,4 +1,4 @@
--- Eight times the record of an idle worker. Assumes nothing.
+-- Eight times the record of an idle worker.
 use Rattle.host.proofs.Tables.{makes-kept}
 use borrow.Author.Needs.{needs}
 use Rattle.host.proofs.table.idle_kept.Statement.{statement}

@@ -1,4 +1,4 @@
--- Each way out is the case of the definition that the check of the count chooses. Assumes nothing.
+-- Each way out is the case of the definition that the check of the count chooses.
 use mathlib.Core.Path.{refl}
 use Rattle.host.proofs.Tables.{table-made, table-refused}
 use borrow.Author.Needs.{needs}

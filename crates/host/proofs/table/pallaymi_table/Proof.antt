@@ -1,4 +1,4 @@
--- The table is copied out of the borrow and passed to the covered call, of which only its contract is known; what comes back is stored over it, and the number is returned. A walk of the MIR by hand. Assumes nothing.
+-- The table is copied out of the borrow and passed to the covered call, of which only its contract is known; what comes back is stored over it, and the number is returned. A walk of the MIR by hand.
 use mathlib.Core.Path.{refl, ap}
 use Prim.Native.Nat.{ℕ, _<_, _^_}
 use mathlib.Core.List.{[], _∷_, List}

@@ -1,4 +1,4 @@
--- The walk of the call is the one of the definition. Assumes nothing.
+-- The walk of the call is the one of the definition.
 use Rattle.listing.proofs.Whole.{whole-cases}
 use borrow.Author.Needs.{needs}
 use Rattle.listing.proofs.body.live_vertices.Statement.{statement}

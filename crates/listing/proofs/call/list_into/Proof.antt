@@ -1,4 +1,4 @@
--- A sound catalogue has few enough live edges for its text to fit. Assumes nothing.
+-- A sound catalogue has few enough live edges for its text to fit.
 use Rattle.listing.proofs.Results.{result-cases}
 use borrow.Author.Needs.{needs}
 use Rattle.listing.proofs.call.list_into.Statement.{statement}

@@ -1,4 +1,4 @@
--- The checks are those of the definition, in its order. Assumes nothing.
+-- The checks are those of the definition, in its order.
 use Rattle.memory.proofs.Sizes.{size-flag, sized-flag}
 use Rattle.listing.proofs.Results.{left-unsized, left-short, left-listed}
 use borrow.Author.Needs.{needs}

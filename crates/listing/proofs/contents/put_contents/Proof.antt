@@ -1,4 +1,4 @@
--- The two counts are those of the definition, and small enough to be written. Assumes nothing.
+-- The two counts are those of the definition, and small enough to be written.
 use Rattle.listing.proofs.Results.{contents-cases}
 use borrow.Author.Needs.{needs}
 use Rattle.listing.proofs.contents.put_contents.Statement.{statement}

@@ -1,4 +1,4 @@
--- The fuel falls at each node, and each node is counted where the definition keeps it. Assumes nothing.
+-- The fuel falls at each node, and each node is counted where the definition keeps it.
 use Rattle.listing.proofs.Counts.{count-cases}
 use borrow.Author.Needs.{needs}
 use Prim.Native.Nat.{ℕ, _<_}

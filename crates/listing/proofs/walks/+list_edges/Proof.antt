@@ -1,4 +1,4 @@
--- The fuel falls at each node, and the lines of its edges are put where the definition keeps it. Assumes nothing.
+-- The fuel falls at each node, and the lines of its edges are put where the definition keeps it.
 use Rattle.listing.proofs.Listed.{gather-cases, edges-put}
 use borrow.Author.Needs.{needs}
 use Prim.Native.Nat.{ℕ, _<_}

@@ -1,4 +1,4 @@
--- The vertex climbs to the end. Assumes nothing.
+-- The vertex climbs to the end.
 use Prim.Native.Nat.{_-_}
 use mathlib.Core.Path.{_≡_}
 use lib.ListN.{length}

@@ -1,4 +1,4 @@
--- Each way out is the case of the definition that its tests and reads choose. Assumes nothing.
+-- Each way out is the case of the definition that its tests and reads choose.
 use Rattle.laws.proofs.Ways.{ways}
 use Rattle.catalogue.specs.Steps.Both.{see-both}
 use borrow.Author.Needs.{needs}

@@ -1,4 +1,4 @@
--- Each way out is the case of the definition that its tests and reads choose. Assumes nothing.
+-- Each way out is the case of the definition that its tests and reads choose.
 use Rattle.looks.proofs.Seen.{place-ways}
 use Rattle.catalogue.specs.Steps.Places.{vertex-place}
 use Rattle.looks.proofs.places.vertex_place.Statement.{statement}

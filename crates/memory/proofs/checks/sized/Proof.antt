@@ -1,4 +1,4 @@
--- The tests are those of the definition. Assumes nothing.
+-- The tests are those of the definition.
 use Rattle.laws.proofs.Ways.{ways}
 use Rattle.catalogue.specs.Lent.{sized}
 use Rattle.memory.proofs.checks.sized.Statement.{statement}

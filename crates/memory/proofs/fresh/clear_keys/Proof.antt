@@ -1,4 +1,4 @@
--- The loop keeps what the law of a filled list says: zero before i, and what was there from i on. Assumes nothing.
+-- The loop keeps what the law of a filled list says: zero before i, and what was there from i on.
 use Prim.Native.Nat.{_-_}
 use lib.IntN.{pos}
 use lib.ListN.{length}

@@ -1,4 +1,4 @@
--- The flag of the check is the test of the definition. Assumes nothing.
+-- The flag of the check is the test of the definition.
 use Rattle.memory.proofs.Sizes.{size-flag, keyed-flag, worded-flag}
 use Rattle.memory.proofs.Zeros.{left-unsized, made-fresh}
 use borrow.Author.Needs.{needs}

@@ -1,4 +1,4 @@
--- Cleared slices are laid memory of zeros, and the head's key and link make them that of the fresh catalogue. Assumes nothing.
+-- Cleared slices are laid memory of zeros, and the head's key and link make them that of the fresh catalogue.
 use Rattle.memory.proofs.Zeros.{fresh-laid}
 use borrow.Author.Needs.{needs}
 use Rattle.memory.proofs.fresh.lay_fresh.Statement.{statement}

@@ -1,4 +1,4 @@
--- The one test of the read is the one test of the definition. Assumes nothing.
+-- The one test of the read is the one test of the definition.
 use Rattle.laws.proofs.Rules.{tests}
 use Rattle.catalogue.specs.Catalogue.{edge-key-in}
 use borrow.Author.Needs.{needs}

@@ -1,4 +1,4 @@
--- Each way out is a case of the definition, by the same tests. Assumes nothing.
+-- Each way out is a case of the definition, by the same tests.
 use Rattle.memory.proofs.Words.{word-tests}
 use Rattle.catalogue.specs.Numbers.{room}
 use borrow.Author.Needs.{needs}

@@ -1,4 +1,4 @@
--- Each arm calls the function of its kind, whose contract is the definition at that kind. Assumes nothing.
+-- Each arm calls the function of its kind, whose contract is the definition at that kind.
 use Rattle.memory.proofs.Commits.{asks, kinds}
 use borrow.Author.Needs.{needs}
 use Rattle.memory.proofs.writes.commit.Statement.{statement}

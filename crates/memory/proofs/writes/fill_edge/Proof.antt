@@ -1,4 +1,4 @@
--- The stores of key, target, link and count are those of the catalogue with the edge. Assumes nothing.
+-- The stores of key, target, link and count are those of the catalogue with the edge.
 use mir.Facts.{toZ-ofZ}
 use Rattle.memory.proofs.Commits.{fill-edge-held}
 use borrow.Author.Needs.{needs}

@@ -1,4 +1,4 @@
--- The stores of key, link, first edge and count are those of the catalogue with the vertex. Assumes nothing.
+-- The stores of key, link, first edge and count are those of the catalogue with the vertex.
 use mir.Facts.{toZ-ofZ}
 use Rattle.memory.proofs.Commits.{fill-vertex-held}
 use borrow.Author.Needs.{needs}

@@ -1,4 +1,4 @@
--- The last link is turned in the catalogue that has the edge already. Assumes nothing.
+-- The last link is turned in the catalogue that has the edge already.
 use mir.Facts.{toZ-ofZ}
 use Rattle.memory.proofs.Commits.{new-first-held}
 use borrow.Author.Needs.{needs}

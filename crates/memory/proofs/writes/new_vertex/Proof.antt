@@ -1,4 +1,4 @@
--- The last link is turned in the catalogue that has the vertex already. Assumes nothing.
+-- The last link is turned in the catalogue that has the vertex already.
 use mir.Facts.{toZ-ofZ}
 use Rattle.memory.proofs.Commits.{new-vertex-held}
 use borrow.Author.Needs.{needs}

@@ -1,4 +1,4 @@
--- The word stored is four times the edge, with no tag. Assumes nothing.
+-- The word stored is four times the edge, with no tag.
 use native.Mathlib.Nat.{add-zero}
 use borrow.Author.Needs.{needs}
 use Rattle.memory.proofs.writes.put_first_link.Statement.{statement}

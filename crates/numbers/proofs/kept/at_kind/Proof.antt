@@ -1,4 +1,4 @@
--- The record is the one of the definition. Assumes nothing.
+-- The record is the one of the definition.
 use Rattle.numbers.proofs.Places.{spots}
 use Rattle.numbers.specs.Kept.{at-kind}
 use Rattle.numbers.proofs.kept.at_kind.Statement.{statement}

@@ -1,4 +1,4 @@
--- Each arm is the case of the definition for what stands before the edge. Assumes nothing.
+-- Each arm is the case of the definition for what stands before the edge.
 use Rattle.numbers.proofs.Places.{spots}
 use Rattle.numbers.specs.Kept.{edge-spot}
 use borrow.Author.Needs.{needs}

@@ -1,4 +1,4 @@
--- Each arm is the case of the definition for its kind. Assumes nothing.
+-- Each arm is the case of the definition for its kind.
 use Rattle.looks.proofs.Seen.{place-ways}
 use Rattle.numbers.specs.Kept.{place-in}
 use borrow.Author.Needs.{needs}

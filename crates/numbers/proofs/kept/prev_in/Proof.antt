@@ -1,4 +1,4 @@
--- Each way out is the case of the definition that its test chooses. Assumes nothing.
+-- Each way out is the case of the definition that its test chooses.
 use Rattle.looks.proofs.Seen.{place-ways}
 use Rattle.numbers.specs.Kept.{prev-in}
 use Rattle.numbers.proofs.kept.prev_in.Statement.{statement}

@@ -1,4 +1,4 @@
--- The record is made of the parts that the definition names. Assumes nothing.
+-- The record is made of the parts that the definition names.
 use Rattle.numbers.proofs.Places.{spots}
 use borrow.Author.Needs.{needs}
 use Rattle.numbers.proofs.kept.record_of.Statement.{statement}

@@ -1,4 +1,4 @@
--- Each arm is the case of the definition for its place. Assumes nothing.
+-- Each arm is the case of the definition for its place.
 use Rattle.numbers.proofs.Places.{spots}
 use borrow.Author.Needs.{needs}
 use Rattle.numbers.proofs.kept.spot_of.Statement.{statement}

@@ -1,4 +1,4 @@
--- Each arm is the sum of the definition for its answer. Assumes nothing.
+-- Each arm is the sum of the definition for its answer.
 use Rattle.numbers.proofs.Packed.{packs}
 use borrow.Author.Needs.{needs}
 use Rattle.numbers.proofs.packing.packed_made.Statement.{statement}

@@ -1,4 +1,4 @@
--- Each worker of the result is its record read back, and there are eight of them. Assumes nothing.
+-- Each worker of the result is its record read back, and there are eight of them.
 use Rattle.numbers.proofs.Tables.{eight-records, all-read}
 use borrow.Author.Needs.{needs}
 use Rattle.numbers.proofs.reading.table_of.Statement.{statement}

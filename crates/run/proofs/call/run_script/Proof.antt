@@ -1,4 +1,4 @@
--- The run is the definition's, and its catalogue is sound, so that its result fits the output. Assumes nothing.
+-- The run is the definition's, and its catalogue is sound, so that its result fits the output.
 use borrow.Author.Needs.{needs}
 use Rattle.run.proofs.Results.{prefix, printable, ran}
 use Rattle.run.proofs.TurnLaws.{is-sized}

@@ -1,4 +1,4 @@
--- The state is that of the definition, with a table of idle workers. Assumes nothing.
+-- The state is that of the definition, with a table of idle workers.
 use mathlib.Core.Path.{ap}
 use borrow.Author.Needs.{needs}
 use Rattle.catalogue.specs.declared.workers.Table.{Table}

@@ -1,4 +1,4 @@
--- The loop keeps that the turns left, played from where the code stands, are the whole run. Assumes nothing.
+-- The loop keeps that the turns left, played from where the code stands, are the whole run.
 use Prim.Native.Nat.{_-_}
 use mathlib.Core.Path.{refl}
 use borrow.Author.Needs.{needs}

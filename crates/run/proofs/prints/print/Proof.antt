@@ -1,4 +1,4 @@
--- Each part is written where the one before it ends. Assumes nothing.
+-- Each part is written where the one before it ends.
 use Rattle.run.proofs.Printing.{printing}
 use borrow.Author.Needs.{needs}
 use Rattle.run.proofs.prints.print.Statement.{statement}

@@ -1,4 +1,4 @@
--- No request left, a line that is none, or the request that stands there is taken up. Assumes nothing.
+-- No request left, a line that is none, or the request that stands there is taken up.
 use Rattle.run.proofs.TurnLaws.{taking, taken-line, key-args}
 use borrow.Author.Needs.{needs}
 use Rattle.run.proofs.takes.take_next.Statement.{statement}

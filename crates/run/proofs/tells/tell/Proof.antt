@@ -1,4 +1,4 @@
--- Each answer is its own case of the definition. Assumes nothing.
+-- Each answer is its own case of the definition.
 use Rattle.run.proofs.TurnLaws.{telling}
 use borrow.Author.Needs.{needs}
 use Rattle.run.proofs.tells.tell.Statement.{statement}

@@ -1,4 +1,4 @@
--- The step of the record is the step of its worker: the checks before it are those that were asked for. Assumes nothing.
+-- The step of the record is the step of its worker: the checks before it are those that were asked for.
 use mathlib.Core.Path.{refl}
 use borrow.Author.Needs.{needs}
 use Rattle.workers.proofs.CheckLaws.{worker-below}

@@ -1,4 +1,4 @@
--- Each way ends with the definition's bad line, or with the script that the positions give. Assumes nothing.
+-- Each way ends with the definition's bad line, or with the script that the positions give.
 use Rattle.script.proofs.WholeLaws.{too-long, whole-cases}
 use native.Mathlib.Omega.{arith}
 use denote.Ref.{now}

@@ -1,4 +1,4 @@
--- The schedule's end and the text's length choose the case of the definition. Assumes nothing.
+-- The schedule's end and the text's length choose the case of the definition.
 use Rattle.script.proofs.CheckLaws.{end-cases}
 use borrow.Author.Needs.{needs}
 use Rattle.script.proofs.checks.check_end.Statement.{statement}

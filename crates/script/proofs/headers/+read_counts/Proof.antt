@@ -1,4 +1,4 @@
--- Each count joins those before it and leaves one count less; the number behind all of them ends the line. Assumes nothing.
+-- Each count joins those before it and leaves one count less; the number behind all of them ends the line.
 use Rattle.script.proofs.HeadingLaws.{heading-cases}
 use borrow.Author.Needs.{needs}
 use Prim.Native.Nat.{ℕ, _-_, _<_}

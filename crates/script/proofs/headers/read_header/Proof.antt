@@ -1,4 +1,4 @@
--- The number of workers leaves the counts, or the line is bad. Assumes nothing.
+-- The number of workers leaves the counts, or the line is bad.
 use Rattle.script.proofs.HeadingLaws.{heading-cases}
 use borrow.Author.Needs.{needs}
 use Rattle.script.proofs.headers.read_header.Statement.{statement}

@@ -1,4 +1,4 @@
--- A number of 31 bits has an opposite of 32. Assumes nothing.
+-- A number of 31 bits has an opposite of 32.
 use Rattle.script.proofs.KeyLaws.{key-cases}
 use borrow.Author.Needs.{needs}
 use Rattle.script.proofs.keys.opposite.Statement.{statement}

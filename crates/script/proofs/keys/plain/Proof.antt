@@ -1,4 +1,4 @@
--- A number of 31 bits is the same with a sign. Assumes nothing.
+-- A number of 31 bits is the same with a sign.
 use Rattle.script.proofs.KeyLaws.{key-cases}
 use borrow.Author.Needs.{needs}
 use Rattle.script.proofs.keys.plain.Statement.{statement}

@@ -1,4 +1,4 @@
--- A minus chooses the opposite of the number behind it, and any other byte the number itself. Assumes nothing.
+-- A minus chooses the opposite of the number behind it, and any other byte the number itself.
 use Rattle.script.proofs.KeyLaws.{key-cases}
 use borrow.Author.Needs.{needs}
 use Rattle.script.proofs.keys.read_key.Statement.{statement}

@@ -1,4 +1,4 @@
--- Each byte decides, or is a digit and leaves the same question for the next position, so the bytes left fall. Assumes nothing.
+-- Each byte decides, or is a digit and leaves the same question for the next position, so the bytes left fall.
 use Rattle.script.proofs.NumberLaws.{number-cases}
 use Rattle.script.specs.Words.{rest-at}
 use borrow.Author.Needs.{needs}

@@ -1,4 +1,4 @@
--- The byte behind a first digit 0 decides: a space, the line's end, or anything else, which is bad. Assumes nothing.
+-- The byte behind a first digit 0 decides: a space, the line's end, or anything else, which is bad.
 use Rattle.script.proofs.NumberLaws.{number-cases}
 use Rattle.script.specs.Words.{zero-at}
 use borrow.Author.Needs.{needs}

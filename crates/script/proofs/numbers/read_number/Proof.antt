@@ -1,4 +1,4 @@
--- The first digit chooses the case of the definition, and the bytes behind it are read by the callee. Assumes nothing.
+-- The first digit chooses the case of the definition, and the bytes behind it are read by the callee.
 use Rattle.script.proofs.NumberLaws.{number-cases}
 use Rattle.script.specs.Words.{number-at}
 use borrow.Author.Needs.{needs}

@@ -1,4 +1,4 @@
--- The first key leaves the second where the code has two, and ends the line where it has one. Assumes nothing.
+-- The first key leaves the second where the code has two, and ends the line where it has one.
 use Rattle.script.proofs.RequestLaws.{request-cases}
 use borrow.Author.Needs.{needs}
 use Rattle.script.proofs.requests.read_keys.Statement.{statement}

@@ -1,4 +1,4 @@
--- A code that is known leaves the keys, and any other first word makes the line bad. Assumes nothing.
+-- A code that is known leaves the keys, and any other first word makes the line bad.
 use Rattle.script.proofs.RequestLaws.{request-cases}
 use borrow.Author.Needs.{needs}
 use Rattle.script.proofs.requests.read_request.Statement.{statement}

@@ -1,4 +1,4 @@
--- The second key is the last word of its line, or the line is bad. Assumes nothing.
+-- The second key is the last word of its line, or the line is bad.
 use Rattle.script.proofs.RequestLaws.{request-cases}
 use borrow.Author.Needs.{needs}
 use Rattle.script.proofs.requests.second_key.Statement.{statement}

@@ -1,4 +1,4 @@
--- Each worker's lines are skipped, and its start joins those of the workers before it, so the workers left fall. Assumes nothing.
+-- Each worker's lines are skipped, and its start joins those of the workers before it, so the workers left fall.
 use Rattle.script.proofs.ShareLaws.{share-cases}
 use borrow.Author.Needs.{needs}
 use Prim.Native.Nat.{ℕ, _-_, _<_}

@@ -1,4 +1,4 @@
--- The loop keeps that the lines left are the question that was asked. Assumes nothing.
+-- The loop keeps that the lines left are the question that was asked.
 use Prim.Native.Nat.{_-_}
 use Rattle.script.proofs.ShareLaws.{Skipping, skips}
 use borrow.Author.Needs.{needs}

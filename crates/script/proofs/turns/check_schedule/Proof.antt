@@ -1,4 +1,4 @@
--- Some turns are checked by the callee, and none are an empty line. Assumes nothing.
+-- Some turns are checked by the callee, and none are an empty line.
 use Rattle.script.proofs.ScheduleLaws.{schedule-cases}
 use borrow.Author.Needs.{needs}
 use Rattle.script.proofs.turns.check_schedule.Statement.{statement}

@@ -1,4 +1,4 @@
--- The tests are those of the definition, case by case of the number that was read. Assumes nothing.
+-- The tests are those of the definition, case by case of the number that was read.
 use Rattle.script.proofs.ScheduleLaws.{schedule-cases}
 use borrow.Author.Needs.{needs}
 use Rattle.script.proofs.turns.check_turn.Statement.{statement}

@@ -1,4 +1,4 @@
--- The loop keeps that the turns left are the question that was asked. Assumes nothing.
+-- The loop keeps that the turns left are the question that was asked.
 use Rattle.script.proofs.TurnLaws.{Turning, turn-steps}
 use borrow.Author.Needs.{needs}
 use Rattle.script.proofs.turns.check_turns.Statement.{statement}

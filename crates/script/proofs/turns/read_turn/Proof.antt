@@ -1,4 +1,4 @@
--- The result is what the number at the position says. Assumes nothing.
+-- The result is what the number at the position says.
 use Rattle.script.proofs.ScheduleLaws.{schedule-cases}
 use borrow.Author.Needs.{needs}
 use Rattle.script.proofs.turns.read_turn.Statement.{statement}

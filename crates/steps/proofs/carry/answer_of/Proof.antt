@@ -1,4 +1,4 @@
--- Each arm is the definition's case of the decision that the arm knows. Assumes nothing.
+-- Each arm is the definition's case of the decision that the arm knows.
 use Rattle.steps.proofs.Decisions.{carried}
 use borrow.Author.Needs.{needs}
 use Rattle.steps.proofs.carry.answer_of.Statement.{statement}

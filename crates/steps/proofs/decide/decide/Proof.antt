@@ -1,4 +1,4 @@
--- The front of the queue is read, and the place decides. Assumes nothing.
+-- The front of the queue is read, and the place decides.
 use Rattle.steps.proofs.Decisions.{at-front}
 use borrow.Author.Needs.{needs}
 use Rattle.steps.proofs.decide.decide.Statement.{statement}

@@ -1,4 +1,4 @@
--- The one test is that of the definition, on the request of the same place. Assumes nothing.
+-- The one test is that of the definition, on the request of the same place.
 use Rattle.steps.proofs.Decisions.{asked}
 use Rattle.catalogue.specs.Steps.Decide.{decide-at}
 use borrow.Author.Needs.{needs}

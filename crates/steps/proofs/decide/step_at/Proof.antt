@@ -1,4 +1,4 @@
--- Each arm is the definition's case at the place that the arm knows. Assumes nothing.
+-- Each arm is the definition's case at the place that the arm knows.
 use Rattle.steps.proofs.Decisions.{places}
 use borrow.Author.Needs.{needs}
 use Rattle.steps.proofs.decide.step_at.Statement.{statement}

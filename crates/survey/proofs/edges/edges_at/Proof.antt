@@ -1,4 +1,4 @@
--- The first-edge link is torn or leads into the walk. Assumes nothing.
+-- The first-edge link is torn or leads into the walk.
 use Rattle.survey.proofs.EdgeLaws.{whole-cases}
 use borrow.Author.Needs.{needs}
 use Rattle.survey.proofs.edges.edges_at.Statement.{statement}

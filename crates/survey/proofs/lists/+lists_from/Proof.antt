@@ -1,4 +1,4 @@
--- Each way out is a clause of the walk; a call is at one node less. Assumes nothing.
+-- Each way out is a clause of the walk; a call is at one node less.
 use Rattle.survey.proofs.ListLaws.{lists-cases}
 use Prim.Native.Nat.{ℕ, _<_}
 use borrow.Fn.Kinds.{In}

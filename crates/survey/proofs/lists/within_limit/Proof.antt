@@ -1,4 +1,4 @@
--- The one test is that of the limit. Assumes nothing.
+-- The one test is that of the limit.
 use borrow.Author.Tests.{le-leb, lt-leb}
 use Rattle.survey.proofs.lists.within_limit.Statement.{statement}
 use Rattle.survey.proofs.lists.within_limit.Tie as tie

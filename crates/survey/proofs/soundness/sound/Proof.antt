@@ -1,4 +1,4 @@
--- Each way out is a case of the definition, by what the walks found. Assumes nothing.
+-- Each way out is a case of the definition, by what the walks found.
 use Rattle.survey.proofs.SoundLaws.{sound-cases}
 use borrow.Author.Needs.{needs}
 use Rattle.survey.proofs.soundness.sound.Statement.{statement}

@@ -1,4 +1,4 @@
--- Each way out is a case of the definition. Assumes nothing.
+-- Each way out is a case of the definition.
 use Rattle.survey.proofs.Told.{told-ways}
 use borrow.Author.Needs.{needs}
 use Rattle.survey.proofs.tests.edge_sound.Statement.{statement}

@@ -1,4 +1,4 @@
--- Each way out is a case of the definition, and an ADDED edge lies in its pool. Assumes nothing.
+-- Each way out is a case of the definition, and an ADDED edge lies in its pool.
 use Rattle.survey.proofs.Lives.{live-cases}
 use borrow.Author.Needs.{needs}
 use Rattle.survey.proofs.tests.is_live.Statement.{statement}

@@ -1,4 +1,4 @@
--- Each way out is a case of the definition. Assumes nothing.
+-- Each way out is a case of the definition.
 use Rattle.laws.proofs.Ways.{ways}
 use borrow.Author.Needs.{needs}
 use Rattle.survey.proofs.tests.next_vertex.Statement.{statement}

@@ -1,4 +1,4 @@
--- Each way out is a case of the definition. Assumes nothing.
+-- Each way out is a case of the definition.
 use Rattle.survey.proofs.Told.{met-on, eqZ-both-true, eqZ-both-false}
 use Rattle.laws.proofs.Ways.{on-true, on-false, vertex-at, vertex-torn}
 use borrow.Author.Needs.{needs, sfits-of}

@@ -1,4 +1,4 @@
--- Each way out is a case of the definition, by the same test. Assumes nothing.
+-- Each way out is a case of the definition, by the same test.
 use Rattle.laws.proofs.Ways.{ways}
 use borrow.Author.Needs.{needs}
 use Rattle.survey.proofs.tests.unmarked.Statement.{statement}

@@ -1,4 +1,4 @@
--- Each way out is a case of the definition, by the two keys that are read. Assumes nothing.
+-- Each way out is a case of the definition, by the two keys that are read.
 use Rattle.survey.proofs.Told.{ltZ-says}
 use Rattle.laws.proofs.Ways.{vertex-at, vertex-torn}
 use borrow.Author.Needs.{needs, sfits-of}

@@ -1,4 +1,4 @@
--- The set is as it was where it has the number, and else the sum. Assumes nothing.
+-- The set is as it was where it has the number, and else the sum.
 use Rattle.survey.proofs.WalkLaws.{also-cases}
 use borrow.Author.Needs.{needs}
 use Rattle.survey.proofs.walks.also_met.Statement.{statement}

@@ -1,4 +1,4 @@
--- The number of workers falls at each step, and each answer is the case of the definition that the worker below it chooses. Assumes nothing.
+-- The number of workers falls at each step, and each answer is the case of the definition that the worker below it chooses.
 use Rattle.sweep.proofs.Busy.{busy-cases}
 use Prim.Native.Nat.{ℕ, _<_}
 use borrow.Fn.Kinds.{In}

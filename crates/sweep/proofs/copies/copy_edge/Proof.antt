@@ -1,4 +1,4 @@
--- The test chooses the case of both definitions. Assumes nothing.
+-- The test chooses the case of both definitions.
 use Rattle.sweep.proofs.CopyLaws.{edge-copy}
 use borrow.Author.Needs.{needs}
 use Rattle.sweep.proofs.copies.copy_edge.Statement.{statement}

@@ -1,4 +1,4 @@
--- The key is read, and both callees have their part of the promise. Assumes nothing.
+-- The key is read, and both callees have their part of the promise.
 use Rattle.sweep.proofs.CopyLaws.{vertex-copy}
 use borrow.Author.Needs.{needs}
 use Rattle.sweep.proofs.copies.copy_vertex.Statement.{statement}

@@ -1,4 +1,4 @@
--- Two commits, of which the second makes the new edge ADDED. Assumes nothing.
+-- Two commits, of which the second makes the new edge ADDED.
 use Rattle.sweep.proofs.NodeLaws.{edge-writable, edge-node}
 use borrow.Author.Needs.{needs}
 use Rattle.sweep.proofs.nodes.add_edge.Statement.{statement}

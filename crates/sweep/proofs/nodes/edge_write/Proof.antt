@@ -1,4 +1,4 @@
--- The test of p is that of the definition. Assumes nothing.
+-- The test of p is that of the definition.
 use Rattle.sweep.proofs.NodeLaws.{edge-written}
 use borrow.Author.Needs.{needs}
 use Rattle.sweep.proofs.nodes.edge_write.Statement.{statement}

@@ -1,4 +1,4 @@
--- The test of the count is that of the definition. Assumes nothing.
+-- The test of the count is that of the definition.
 use Rattle.laws.proofs.Ways.{ways}
 use Rattle.sweep.specs.Built.{last-vertex}
 use borrow.Author.Needs.{needs}

@@ -1,4 +1,4 @@
--- One store, at the old number. Assumes nothing.
+-- One store, at the old number.
 use borrow.Author.Needs.{needs}
 use Rattle.sweep.proofs.nodes.put_number.Statement.{statement}
 use Rattle.sweep.proofs.nodes.put_number.Tie as tie

@@ -1,4 +1,4 @@
--- The read chooses the case of the definition. Assumes nothing.
+-- The read chooses the case of the definition.
 use Rattle.laws.proofs.Ways.{ways}
 use borrow.Author.Needs.{needs}
 use Rattle.sweep.proofs.nodes.target_number.Statement.{statement}

@@ -1,4 +1,4 @@
--- Each way out is the case of the definition that its checks choose. Assumes nothing.
+-- Each way out is the case of the definition that its checks choose.
 use Rattle.sweep.proofs.Refusals.{into-cases}
 use borrow.Author.Needs.{needs}
 use Rattle.sweep.proofs.sweep.sweep_into.Statement.{statement}

@@ -1,4 +1,4 @@
--- What the two walks build of a sound catalogue is its second catalogue, for which there is room. Assumes nothing.
+-- What the two walks build of a sound catalogue is its second catalogue, for which there is room.
 use Rattle.sweep.proofs.Second.{second-cases}
 use borrow.Author.Needs.{needs}
 use Rattle.sweep.proofs.sweep.sweep_sound.Statement.{statement}

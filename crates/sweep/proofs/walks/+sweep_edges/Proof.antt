@@ -1,4 +1,4 @@
--- The fuel falls at each vertex, whose list is made where the definition keeps it. Assumes nothing.
+-- The fuel falls at each vertex, whose list is made where the definition keeps it.
 use Rattle.sweep.proofs.ListCases.{list-cases}
 use Prim.Native.Nat.{ℕ, _<_}
 use borrow.Fn.Kinds.{In}

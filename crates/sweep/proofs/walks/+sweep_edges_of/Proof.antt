@@ -1,4 +1,4 @@
--- The fuel falls at each edge, which is copied as the definition keeps it. Assumes nothing.
+-- The fuel falls at each edge, which is copied as the definition keeps it.
 use Rattle.sweep.proofs.EdgeCases.{edge-cases}
 use Prim.Native.Nat.{ℕ, _<_}
 use borrow.Fn.Kinds.{In}

@@ -1,4 +1,4 @@
--- The fuel falls at each vertex, which is made and numbered where the definition keeps it. Assumes nothing.
+-- The fuel falls at each vertex, which is made and numbered where the definition keeps it.
 use Rattle.sweep.proofs.VertexCases.{vertex-cases}
 use Prim.Native.Nat.{ℕ, _<_}
 use borrow.Fn.Kinds.{In}

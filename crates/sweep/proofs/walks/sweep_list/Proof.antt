@@ -1,4 +1,4 @@
--- The walk begins at the first edge of the vertex, with no edge before it. Assumes nothing.
+-- The walk begins at the first edge of the vertex, with no edge before it.
 use Rattle.sweep.proofs.EdgeCases.{own-list}
 use borrow.Author.Needs.{needs}
 use Rattle.sweep.proofs.walks.sweep_list.Statement.{statement}

@@ -1,4 +1,4 @@
--- Each cast holds the value it is given, and the result is the number without its sign. Assumes nothing.
+-- Each cast holds the value it is given, and the result is the number without its sign.
 use Rattle.text.proofs.Magnitudes.{magnitudes}
 use borrow.Author.Needs.{needs}
 use Rattle.text.proofs.puts.magnitude.Statement.{statement}

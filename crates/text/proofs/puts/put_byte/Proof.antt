@@ -1,4 +1,4 @@
--- A store of one byte puts a run of one. Assumes nothing.
+-- A store of one byte puts a run of one.
 use Rattle.text.proofs.Runs.{put-one}
 use borrow.Author.Needs.{needs}
 use Rattle.text.proofs.puts.put_byte.Statement.{statement}

@@ -1,4 +1,4 @@
--- The loop keeps what the law of a copied run says: the bytes before i are put. Assumes nothing.
+-- The loop keeps what the law of a copied run says: the bytes before i are put.
 use Prim.Native.Nat.{_-_}
 use lib.ListN.{length}
 use borrow.Author.Needs.{needs}

@@ -1,4 +1,4 @@
--- The part of the scratch that is put spells the number. Assumes nothing.
+-- The part of the scratch that is put spells the number.
 use Rattle.text.proofs.Spelling.{spelt}
 use borrow.Author.Needs.{needs}
 use Rattle.text.proofs.puts.put_natural.Statement.{statement}

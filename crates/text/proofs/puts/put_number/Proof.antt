@@ -1,4 +1,4 @@
--- The sign chooses the case of the definition, and the magnitude's digits follow. Assumes nothing.
+-- The sign chooses the case of the definition, and the magnitude's digits follow.
 use Rattle.text.proofs.Signs.{signs}
 use borrow.Author.Needs.{needs}
 use Rattle.text.proofs.puts.put_number.Statement.{statement}

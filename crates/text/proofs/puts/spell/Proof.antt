@@ -1,4 +1,4 @@
--- The loop keeps that the digits of what is left and those stored are those of the number. Assumes nothing.
+-- The loop keeps that the digits of what is left and those stored are those of the number.
 use native.Mathlib.Omega.{arith}
 use lib.ListN.{length-set}
 use borrow.Author.Needs.{needs}

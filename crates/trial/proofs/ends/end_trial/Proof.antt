@@ -1,4 +1,4 @@
--- Each way out is the case of the definition that its tests and reads choose. Assumes nothing.
+-- Each way out is the case of the definition that its tests and reads choose.
 use Rattle.trial.proofs.Seen.{trial-ways}
 use Rattle.catalogue.specs.Steps.Trial.{end-trial}
 use borrow.Author.Needs.{needs}

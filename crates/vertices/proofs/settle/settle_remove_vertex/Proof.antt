@@ -1,4 +1,4 @@
--- Each way out is the case of the definition that its tests and reads choose. Assumes nothing.
+-- Each way out is the case of the definition that its tests and reads choose.
 use Rattle.vertices.proofs.Seen.{settle-ways}
 use Rattle.catalogue.specs.Steps.Vertices.{settle-remove-vertex}
 use borrow.Author.Needs.{needs}

@@ -1,4 +1,4 @@
--- The tests are those of the definition. Assumes nothing.
+-- The tests are those of the definition.
 use Rattle.laws.proofs.Ways.{ways}
 use Rattle.workers.proofs.checks.one_to.Statement.{statement}
 use Rattle.workers.proofs.checks.one_to.Tie as tie

@@ -1,4 +1,4 @@
--- The tests are those of the definition. Assumes nothing.
+-- The tests are those of the definition.
 use Rattle.workers.proofs.CheckLaws.{range-flag}
 use Rattle.laws.proofs.Ways.{on-true, on-false}
 use Rattle.catalogue.specs.Calls.{worker-fits, count-fits}

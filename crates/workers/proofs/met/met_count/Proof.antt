@@ -1,4 +1,4 @@
--- A word has at most 64 ones, so the sums fit, and the four words' ones are the numbers in the set. Assumes nothing.
+-- A word has at most 64 ones, so the sums fit, and the four words' ones are the numbers in the set.
 use Prim.Native.Nat.{ℕ, _≤_}
 use native.Mathlib.Omega.{arith}
 use mir.Syntax.{w64}

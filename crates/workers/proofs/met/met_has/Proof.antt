@@ -1,4 +1,4 @@
--- A shift right is the quotient by the power, so the bit that is tested is the definition's. Assumes nothing.
+-- A shift right is the quotient by the power, so the bit that is tested is the definition's.
 use Rattle.laws.proofs.Rules.{tests}
 use Rattle.catalogue.specs.Workers.{has}
 use borrow.Author.Needs.{needs}

@@ -1,4 +1,4 @@
--- The bit is clear, so that the sum sets it and fits its word. Assumes nothing.
+-- The bit is clear, so that the sum sets it and fits its word.
 use Rattle.laws.proofs.MetLaws.{adding}
 use borrow.Author.Needs.{needs}
 use Rattle.workers.proofs.met.with_met.Statement.{statement}

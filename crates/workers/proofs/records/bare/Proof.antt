@@ -1,4 +1,4 @@
--- The record is the one that is defined, field by field. Assumes nothing.
+-- The record is the one that is defined, field by field.
 use mathlib.Core.Path.{refl}
 use Rattle.workers.proofs.records.bare.Statement.{statement}
 use Rattle.workers.proofs.records.bare.Tie as tie

@@ -1,4 +1,4 @@
--- A set of zero words holds no number, so that v can be added to it. Assumes nothing.
+-- A set of zero words holds no number, so that v can be added to it.
 use Rattle.laws.proofs.MetLaws.{none-met}
 use borrow.Author.Needs.{needs}
 use Rattle.workers.proofs.records.begun.Statement.{statement}

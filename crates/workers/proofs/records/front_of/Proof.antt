@@ -1,4 +1,4 @@
--- Within the queue the element is read, and past its 256 elements the definition gives 0 too. Assumes nothing.
+-- Within the queue the element is read, and past its 256 elements the definition gives 0 too.
 use Rattle.workers.proofs.QueueLaws.{past-queue}
 use borrow.Author.Needs.{needs}
 use Rattle.workers.proofs.records.front_of.Statement.{statement}

@@ -1,4 +1,4 @@
--- The record is the definition's, field by field. Assumes nothing.
+-- The record is the definition's, field by field.
 use borrow.Author.Needs.{needs}
 use Rattle.workers.proofs.records.queued.Statement.{statement}
 use Rattle.workers.proofs.records.queued.Tie as tie

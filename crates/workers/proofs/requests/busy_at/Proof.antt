@@ -1,4 +1,4 @@
--- The first arm is at `Idle`, the other at any other place. Assumes nothing.
+-- The first arm is at `Idle`, the other at any other place.
 use Rattle.workers.proofs.PlaceLaws.{busy-cases}
 use borrow.Author.Needs.{needs}
 use Rattle.workers.proofs.requests.busy_at.Statement.{statement}

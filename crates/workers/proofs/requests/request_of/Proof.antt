@@ -1,4 +1,4 @@
--- Each arm is the definition's case at the place that the arm knows. Assumes nothing.
+-- Each arm is the definition's case at the place that the arm knows.
 use Rattle.workers.proofs.PlaceLaws.{request-cases}
 use borrow.Author.Needs.{needs}
 use Rattle.workers.proofs.requests.request_of.Statement.{statement}

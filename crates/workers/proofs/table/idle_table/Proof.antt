@@ -1,4 +1,4 @@
--- The record that is repeated is the idle one. Assumes nothing.
+-- The record that is repeated is the idle one.
 use borrow.Author.Needs.{needs}
 use Rattle.workers.proofs.table.idle_table.Statement.{statement}
 use Rattle.workers.proofs.table.idle_table.Tie as tie
