@@ -1,4 +1,5 @@
--- A request stepped once more comes to what it came to before; one that is answered, or has no steps left, comes to what it is.
+-- A request stepped once more comes to what it came to before; one that is answered, or has no steps left, comes to
+-- what it is.
 use Prim.Native.Nat.{ℕ, zero, suc, _-_, _<_, _≤_}
 use mathlib.Core.Bool.{true, false}
 use mathlib.Core.List.{List}
@@ -12,6 +13,7 @@ use Rattle.catalogue.specs.Answers.{told}
 use Rattle.catalogue.specs.Lent.{Memory, memory-of, lent-take-up, lent-step}
 use Rattle.catalogue.specs.Workers.{idle-table}
 use Rattle.catalogue.specs.declared.answers.Outcome.{Outcome}
+use Rattle.catalogue.specs.declared.workers.Request.{Request}
 use Rattle.catalogue.specs.declared.workers.Table.{Table}
 use Rattle.asking.specs.Asked.{Standing, Ended, next, ended, ask-on, asked}
 
@@ -19,12 +21,12 @@ use Rattle.asking.specs.Asked.{Standing, Ended, next, ended, ask-on, ask
 abbrev pub At : List ℤ → List ℕ → Table → ℕ → Standing
 At keys words t number = record { memory = memory-of keys words; table = t; number = number }
 
--- as taking up leaves it
-pub ask-starts : (keys : List ℤ) (words : List ℕ) (code : ℕ) (k l : ℤ) (t : Table) (r : Outcome) (number : ℕ)
-    → t ≡ idle-table 1 → r ≡ lent-take-up (memory-of keys words) t 0 code k l .outcome → number ≡ told (r .answer) .number
-    → ask-on 10000 (At keys words (r .table) number) ≡ asked (memory-of keys words) code k l
+-- after taking up
+pub ask-starts : (keys : List ℤ) (words : List ℕ) (q : Request) (t : Table) (r : Outcome) (number : ℕ)
+    → t ≡ idle-table 1 → r ≡ lent-take-up (memory-of keys words) t 0 q .outcome → number ≡ told (r .answer) .number
+    → ask-on 10000 (At keys words (r .table) number) ≡ asked (memory-of keys words) q
 unfolding asked
-ask-starts keys words code k l t r number i e n = rw (n, e, i) refl
+ask-starts keys words q t r number i e n = rw (n, e, i) refl
 
 one-more : (left : ℕ) (s : Standing) → 0 < left → eqb (s .number) 0 ≡ true → ask-on left s ≡ ask-on (left - 1) (next s)
 unfolding ask-on
@@ -49,7 +51,6 @@ spent zero s h = refl
 spent (suc left) s h = absurd (omega arith)
 
 -- keys passed on mean what they meant
-pub ask-ends : (left : ℕ) (s : Standing) (m : Memory) (code : ℕ) {k k′ l l′ : ℤ} → ask-on left s ≡ asked m code k′ l′ → k′ ≡ k → l′ ≡ l
-    → (eqb (s .number) 0 ≡ false) ⊎ (left ≤ 0) → ended left s ≡ asked m code k l
-ask-ends left s m code e p q (inl h) = rw (p, q) at (sym (answered left s h) ∙ e)
-ask-ends left s m code e p q (inr h) = rw (p, q) at (sym (spent left s h) ∙ e)
+pub ask-ends : (left : ℕ) (s : Standing) (m : Memory) {q q′ : Request} → ask-on left s ≡ asked m q′ → q′ ≡ q → (eqb (s .number) 0 ≡ false) ⊎ (left ≤ 0) → ended left s ≡ asked m q
+ask-ends left s m e p (inl h) = rw p at (sym (answered left s h) ∙ e)
+ask-ends left s m e p (inr h) = rw p at (sym (spent left s h) ∙ e)

@@ -1,4 +1,5 @@
--- One request by a lone worker on lent memory: taken up, then stepped until it is answered, with a bound on its steps.
+-- One request by a lone worker on lent memory: taken up, then stepped until it is answered, with a bound on its
+-- steps.
 use Prim.Native.Nat.{ℕ, zero, suc, _-_}
 use mathlib.Core.Bool.{true, false}
 use mathlib.Core.List.{List}
@@ -9,6 +10,7 @@ use Rattle.catalogue.specs.Answers.{told}
 use Rattle.catalogue.specs.Lent.{Memory, lent-take-up, lent-step}
 use Rattle.catalogue.specs.Workers.{idle-table}
 use Rattle.catalogue.specs.declared.answers.Outcome.{Outcome}
+use Rattle.catalogue.specs.declared.workers.Request.{Request}
 use Rattle.catalogue.specs.declared.workers.Table.{Table}
 use Rattle.asking.specs.declared.perform.Performed.{Performed}
 
@@ -39,10 +41,9 @@ unfoldable pub ask-on : ℕ → Standing → Ended
 ask-on zero s = ended 0 s
 ask-on (suc left) s = elim (eqb (s .number) 0) [ true ↦ ask-on left (next s) | false ↦ ended (suc left) s ]
 
-unfoldable pub asked : Memory → ℕ → ℤ → ℤ → Ended
-asked m code k l = ask-on most-steps (standing m (lent-take-up m (idle-table 1) 0 code k l .outcome))
+unfoldable pub asked : Memory → Request → Ended
+asked m q = ask-on most-steps (standing m (lent-take-up m (idle-table 1) 0 q .outcome))
 
--- what performing promises: the reply with its steps, and both slices as it leaves them
-abbrev pub Performs : Memory → ℕ → ℤ → ℤ → Performed → List ℤ → List ℕ → Type 0
-Performs m code k l r keys words =
-    (r ≡ asked m code k l .performed) × ((keys ≡ asked m code k l .memory .keys) × (words ≡ asked m code k l .memory .words))
+-- what performing promises: the reply with its steps, and both slices after it
+abbrev pub Performs : Memory → Request → Performed → List ℤ → List ℕ → Type 0
+Performs m q r keys words = (r ≡ asked m q .performed) × ((keys ≡ asked m q .memory .keys) × (words ≡ asked m q .memory .words))

@@ -2,15 +2,19 @@
 ghost use mathlib.Core.Path.{_≡_};
 ghost use Rattle.catalogue.specs.Answers.{told, made-number};
 ghost use Rattle.catalogue.specs.Lent.{memory-of};
+ghost use Rattle.catalogue.specs.Workers.{asks};
 ghost use Rattle.asking.specs.Asked.{Performs};
-use calls::numbers::refusal_number;
+use calls::refusal::refusal_number;
 use calls::step::step;
 use calls::take_up::take_up;
 use catalogue::answers::Answer;
 use catalogue::answers::Made;
+use catalogue::workers::Pair;
+use catalogue::workers::Request;
 use workers::table::idle_table;
 
-// More than any request takes while nobody else works: a walk for each key, one along a list of edges, and a trial that opens each vertex once.
+// More than any request takes while no other worker steps: a walk for each key, one along a list of edges, and a
+// trial that opens each vertex once.
 const MOST_STEPS: u32 = 10000;
 
 // The reply or the refusal, 0 if there was none after all the steps; and the steps.
@@ -39,9 +43,13 @@ pub fn made_number(made: Made) -> u8
 }
 
 pub fn perform(keys: &mut [i32], words: &mut [u32], code: u32, k: i32, l: i32) -> Performed
-    ensures { λ r. ⌜ Performs (memory-of (now (keys .entry)) (now (words .entry))) code k l r (now (keys .exit)) (now (words .exit)) ⌝ }
+    ensures { λ r. ⌜ Performs (memory-of (now (keys .entry)) (now (words .entry))) (asks code k l) r (now (keys .exit)) (now (words .exit)) ⌝ }
 {
-    let taken = take_up(keys, words, idle_table(1), 0, code, k, l);
+    let q = Request {
+        code,
+        pair: Pair { k, l },
+    };
+    let taken = take_up(keys, words, idle_table(1), 0, q);
     let mut table = taken.table;
     let answer = taken.answer;
     let mut number = answer_number(answer);

@@ -57,7 +57,7 @@ module _ (C : Catalogue) (w : Worker) (d : Decision) where
 put-back : (t : Table) (n : ℕ) → put t n (worker-at t n) ≡ t
 put-back t n = ap (λ (ws : List Worker). record { count = t .count; workers = ws }) (set-getD (t .workers) n blank)
 
--- a step that has decided, its refusals among the rest: those leave the record, and put it back where it was
+-- a step that has decided, its refusals among the rest: those put the record back unchanged
 performed : (C : Catalogue) (t : Table) (n : ℕ) (d : Decision) → perform C t n (worker-at t n) d ≡
     record { catalogue = commit C (write-of d); table = put t n (record-after (worker-at t n) d); answer = answer-of d (record-after (worker-at t n) d) }
 unfolding commit
@@ -84,7 +84,7 @@ module _ (keys : List ℤ) (words : List ℕ) (t : Table) (n : ℕ) (x : Outcome
     unfolding lent-step
     left a e f keys′ words′ g = rw (h, e) (f, g)
 
-    -- memory that stays is that of its view
+    -- unchanged memory is that of its view
     stays : Hold keys words (view m)
     stays = let s = sized-is m h in view-held keys words (s .keyed) (s .worded)
 

@@ -1,3 +1,3 @@
--- What the contracts of the public calls say, and that it leaves no choice.
+-- What the contracts of the public calls say, and that it allows one result only.
 pub mod Promised
 pub mod Unique

@@ -5,13 +5,14 @@ use mathlib.Core.Path.{_≡_}
 use lib.IntN.{ℤ}
 use Rattle.catalogue.specs.Lent.{Memory, lent-take-up, lent-step}
 use Rattle.catalogue.specs.declared.answers.Outcome.{Outcome}
+use Rattle.catalogue.specs.declared.workers.Request.{Request}
 use Rattle.catalogue.specs.declared.workers.Table.{Table}
 
 -- taking up only reads the memory
-abbrev pub Takes-up : Memory → Table → ℕ → ℕ → ℤ → ℤ → Outcome → Type 0
-Takes-up m t w code k l r = r ≡ lent-take-up m t w code k l .outcome
+abbrev pub Takes-up : Memory → Table → ℕ → Request → Outcome → Type 0
+Takes-up m t w q r = r ≡ lent-take-up m t w q .outcome
 
--- a step: the outcome, and both slices as it leaves them
+-- a step: the outcome, and both slices after it
 abbrev pub Steps : Memory → Table → ℕ → Outcome → List ℤ → List ℕ → Type 0
 Steps m t w r keys words =
     (r ≡ lent-step m t w .outcome) × ((keys ≡ lent-step m t w .memory .keys) × (words ≡ lent-step m t w .memory .words))

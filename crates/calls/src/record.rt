@@ -6,11 +6,11 @@ ghost use Rattle.catalogue.specs.Steps.Decide.{decide, stepped, write-of};
 ghost use Rattle.memory.specs.Memories.{Hold};
 use catalogue::answers::Stepped;
 use catalogue::workers::Worker;
-use memory::writes::commit;
 use steps::carry::answer_of;
 use steps::carry::record_after;
 use steps::carry::write_of;
 use steps::decide::decide;
+use writing::writes::commit;
 
 // All reads come first, then the one write, then the record.
 pub fn step_record(keys: &mut [i32], words: &mut [u32], w: Worker) -> Stepped

@@ -24,8 +24,8 @@ refusal-number Torn = 26
 abbrev pub script-refusal : ℕ
 script-refusal = 27
 
--- What an answer of taking up or a step tells: 0 for going on, else the number of the reply or the refusal; and how many series the trial has met,
--- which is 0 with a reply and not told with a refusal.
+-- What taking up or a step returns: 0 for going on, else the number of the reply or refusal.
+-- With it comes how many series the trial has met: 0 with a reply or a refusal.
 pub record Told : Type 0 where
   pub number : ℕ
   pub met : ℕ
@@ -35,12 +35,12 @@ told (Going met) = record { number = 0; met = met }
 told (Reply number) = record { number = number; met = 0 }
 told (Refused refusal) = record { number = refusal-number refusal; met = 0 }
 
--- A fresh catalogue and a sweep tell 0 when done.
+-- A fresh catalogue and a sweep return 0 when done.
 abbrev pub made-number : Made → ℕ
 made-number made.Done = 0
 made-number (made.Refused refusal) = refusal-number refusal
 
--- What a listing or a script tells: 0 and the bytes written, or the refusal; with 27 the line.
+-- What a listing or a script returns: 0 and the bytes written, or the refusal; with 27 the line.
 pub record Told-text : Type 0 where
   pub number : ℕ
   pub bytes : ℕ

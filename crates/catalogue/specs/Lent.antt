@@ -1,6 +1,6 @@
--- The calls on lent memory: document 01, "Replies and refusals", 20, and what each call leaves in the memory that it was lent.
--- A catalogue is lent as two runs of numbers. The keys: 256 of vertices, then 2,048 of edges. The words: the two counts handed out, 256 vertex links,
--- 256 first-edge links, 2,048 edge targets, 2,048 edge links.
+-- The calls on lent memory: document 01, "Replies and refusals", 20, and the lent memory after each call.
+-- A catalogue is lent as two runs of numbers. The keys: 256 of vertices, then 2,048 of edges.
+-- The words: the two counts handed out, 256 vertex links, 256 first-edge links, 2,048 edge targets, 2,048 edge links.
 use Prim.Native.Nat.{ℕ, _+_}
 use mathlib.Core.Bool.{Bool, false}
 use mathlib.Core.Path.{_≡_}
@@ -15,6 +15,7 @@ use Rattle.catalogue.specs.Sweep.{After-sweep, sweep-into}
 use Rattle.catalogue.specs.Listing.{After-listing, list-into, written}
 use Rattle.catalogue.specs.Script.{Script, Read, bad, good, read-script}
 use Rattle.catalogue.specs.Run.{run, run-text}
+use Rattle.catalogue.specs.declared.workers.Request.{Request}
 use Rattle.catalogue.specs.declared.workers.Table.{Table}
 use Rattle.catalogue.specs.declared.answers.Refusal.{Refusal}
 use Rattle.catalogue.specs.declared.answers.Refusal.the-variants as refusal
@@ -68,14 +69,9 @@ elinks words n = getD words (2562 + n) 0
 -- the catalogue that memory holds
 abbrev pub view : Memory → Catalogue
 view m = record {
-  vertices-out = vertex-count (m .words);
-  edges-out = edge-count (m .words);
-  vkey = vkeys (m .keys);
-  vlink = vlinks (m .words);
-  first = firsts (m .words);
-  ekey = ekeys (m .keys);
-  target = targets (m .words);
-  elink = elinks (m .words);
+  counts = record { vertices = vertex-count (m .words); edges = edge-count (m .words) };
+  vertices = record { key = vkeys (m .keys); link = vlinks (m .words); first = firsts (m .words) };
+  edges = record { key = ekeys (m .keys); target = targets (m .words); link = elinks (m .words) };
 }
 
 -- two lent slices as one memory, and the catalogue in them
@@ -88,10 +84,10 @@ catalogue-in keys words = view (memory-of keys words)
 -- the memory that holds a catalogue
 unfoldable pub lay : Catalogue → Memory
 lay C = record {
-  keys = table-from (C .vkey) 0 256 ++ table-from (C .ekey) 0 2048;
+  keys = table-from (C .vertices .key) 0 256 ++ table-from (C .edges .key) 0 2048;
   words =
-      C .vertices-out ∷ C .edges-out
-      ∷ (table-from (C .vlink) 0 256 ++ (table-from (C .first) 0 256 ++ (table-from (C .target) 0 2048 ++ table-from (C .elink) 0 2048)));
+      C .counts .vertices ∷ C .counts .edges
+      ∷ (table-from (C .vertices .link) 0 256 ++ (table-from (C .vertices .first) 0 256 ++ (table-from (C .edges .target) 0 2048 ++ table-from (C .edges .link) 0 2048)));
 }
 
 -- 20: the stated sizes.
@@ -135,13 +131,13 @@ lent-call m t call =
     pick (sized m) (after-call (call (view m)))
     (record { memory = m; outcome = refused t refusal.Room })
 
-unfoldable pub lent-take-up : Memory → Table → ℕ → ℕ → ℤ → ℤ → Lent-call
-lent-take-up m t w code k l = lent-call m t (λ C. take-up C t w code k l)
+unfoldable pub lent-take-up : Memory → Table → ℕ → Request → Lent-call
+lent-take-up m t w q = lent-call m t (λ C. take-up C t w q)
 
 unfoldable pub lent-step : Memory → Table → ℕ → Lent-call
 lent-step m t w = lent-call m t (λ C. step C t w)
 
--- A sweep of one memory into a second; either may be of a wrong size. The first one stays.
+-- A sweep of one memory into a second; either may be of a wrong size. The first one is unchanged.
 abbrev pub after-sweep : After-sweep → Lent-made
 after-sweep a = record { memory = lay (a .second); answer = a .answer }
 

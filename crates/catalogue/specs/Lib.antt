@@ -1,4 +1,5 @@
--- Document 01 as definitions, in its order. Each file renders one section or a part of one; nothing is proved here but the examples.
+-- Document 01 as definitions, in its order. Each file renders one section or a part of one.
+-- Nothing is proved here but the examples.
 pub mod Tests
 pub mod Numbers
 pub mod Catalogue
@@ -16,5 +17,5 @@ pub mod Script
 pub mod Run
 pub mod Lent
 pub mod Drill
-pub mod Runs
+pub mod Choosing
 pub mod Examples

@@ -4,15 +4,15 @@ use mathlib.Core.List.{List, [], _∷_, _++_, map}
 use lib.IntN.{ℤ, pos}
 use lib.ListN.{length, drop}
 use Rattle.catalogue.specs.Tests.{pick, keep}
-use Rattle.catalogue.specs.Catalogue.{Catalogue, vertex-key, edge-key}
-use Rattle.catalogue.specs.Live.{live-vertices, live-edges-of, edges-of, is-added, gather}
+use Rattle.catalogue.specs.Catalogue.{Catalogue}
+use Rattle.catalogue.specs.Live.{live-vertices, live-keys, live-pairs, edges-of, is-added, gather}
 use Rattle.catalogue.specs.Soundness.{sound, listing}
 use Rattle.catalogue.specs.Text.{lines}
 use Rattle.catalogue.specs.declared.answers.Refusal.the-variants as refusal
 use Rattle.catalogue.specs.declared.listing.Listed.{Listed}
 use Rattle.catalogue.specs.declared.listing.Listed.the-variants.{Written, Refused}
 
--- A reply as the output tells it.
+-- A reply as the output shows it.
 pub record Reply-line : Type 0 where
   pub position : ℕ
   pub worker : ℕ
@@ -31,10 +31,10 @@ abbrev pub contents : Catalogue → List Reply-line → List ℤ
 contents C replies = pos (length replies) ∷ pos (length (live-vertices C)) ∷ pos (length (added-edges C)) ∷ []
 
 abbrev pub vertex-lines : Catalogue → List (List ℤ)
-vertex-lines C = map (λ x. vertex-key C x ∷ []) (live-vertices C)
+vertex-lines C = map (λ k. k ∷ []) (live-keys C)
 
 abbrev pub edge-lines : Catalogue → List (List ℤ)
-edge-lines C = gather (λ x. map (λ e. vertex-key C x ∷ edge-key C e ∷ []) (live-edges-of C x)) (live-vertices C)
+edge-lines C = map (λ p. p .0 ∷ p .1 ∷ []) (live-pairs C)
 
 -- The whole output: contents, replies, live vertices, live edges.
 unfoldable pub result-text : Catalogue → List Reply-line → List ℕ

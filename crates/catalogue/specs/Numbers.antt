@@ -75,6 +75,7 @@ edge-tag t = leb marked t
 abbrev pub apart : {A : Type 0} → ℕ → (ℕ → Bool) → ℕ → A → (ℕ → ℕ → A) → A
 apart pool allowed word torn at = pick (ltb (word / 4) pool) (pick (allowed (word % 4)) (at (word / 4) (word % 4)) torn) torn
 
--- First paragraph: a pool hands out its nodes in rising order, so the count handed out says which is next. Above its limit a count is torn.
+-- First paragraph: a pool hands out its nodes in rising order, so the count handed out says which is next.
+-- Above its limit a count is torn.
 unfoldable pub room : ℕ → ℕ → ℕ → Room
 room limit lowest count = pick (ltb count limit) (Next (lowest + count)) (pick (eqb count limit) Full Torn)

@@ -1,4 +1,5 @@
--- Document 01, "Sweep and listing", the last sentence on scripts, and the output: running a script from the fresh catalogue.
+-- Document 01, "Sweep and listing", the last sentence on scripts, and the output:
+-- running a script from the fresh catalogue.
 use Prim.Native.Nat.{ℕ, suc}
 use mathlib.Core.List.{List, [], _∷_, _++_}
 use lib.ListN.{length, getD, set, take, drop}
@@ -46,7 +47,7 @@ steps-on r position w =
 abbrev pub takes-up : Running → ℕ → List Request → Running
 takes-up r w [] = r
 takes-up r w (q ∷ qs) =
-    let after = take-up (r .catalogue) (r .table) w (q .code) (q .k) (q .l) in
+    let after = take-up (r .catalogue) (r .table) w q in
     record { catalogue = after .catalogue; table = after .table; left = set (r .left) w qs; replies = r .replies }
 
 abbrev pub turn : Running → ℕ → ℕ → Running

@@ -1,4 +1,5 @@
--- Document 01, "Sweep and listing", the paragraph on scripts: how a script is written, and how it is read, with the first bad line.
+-- Document 01, "Sweep and listing", the paragraph on scripts:
+-- how a script is written, and how it is read, with the first bad line.
 use Prim.Native.Nat.{ℕ, zero, suc, _+_, _*_, _-_}
 use mathlib.Core.Bool.{Bool, false}
 use mathlib.Core.List.{List, [], _∷_, _++_, map}
@@ -10,6 +11,7 @@ use lib.Dec.{eqb, leb, ltb}
 use Rattle.catalogue.specs.Tests.{pick, one-to, given, every}
 use Rattle.catalogue.specs.Numbers.{least, greatest, most-workers}
 use Rattle.catalogue.specs.Text.{line-end, space, minus, zero-digit, lines}
+use Rattle.catalogue.specs.Workers.{asks}
 use Rattle.catalogue.specs.Steps.Places.{code-known, one-key}
 use Rattle.catalogue.specs.declared.workers.Request.{Request}
 
@@ -31,7 +33,7 @@ most-turns = 8192
 -- ---- how it is written
 
 abbrev pub request-line : Request → List ℤ
-request-line r = pos (r .code) ∷ pick (one-key (r .code)) (r .k ∷ []) (r .k ∷ r .l ∷ [])
+request-line r = pos (r .code) ∷ pick (one-key (r .code)) (r .pair .k ∷ []) (r .pair .k ∷ r .pair .l ∷ [])
 
 unfoldable pub script-text : Script → List ℕ
 script-text s =
@@ -45,7 +47,7 @@ unfoldable pub next-line : List ℕ → Option (List ℕ × List ℕ)
 next-line [] = none
 next-line (b ∷ bs) = pick (eqb b line-end) (some ([], bs)) (given (next-line bs) none (λ r. some (b ∷ r .0, r .1)))
 
--- the words between single spaces; a space too many leaves an empty word
+-- the words between single spaces; a space too many makes an empty word
 abbrev pub grow : ℕ → List (List ℕ) → List (List ℕ)
 grow b [] = (b ∷ []) ∷ []
 grow b (w ∷ ws) = (b ∷ w) ∷ ws
@@ -124,8 +126,8 @@ key-fits k = pick (ltZ least k) (ltZ k greatest) false
 
 abbrev pub request-from : ℕ → List ℤ → Option Request
 request-from code [] = none
-request-from code (k ∷ []) = pick (one-key code) (some (record { code = code; k = k; l = pos 0 })) none
-request-from code (k ∷ (l ∷ [])) = pick (one-key code) none (some (record { code = code; k = k; l = l }))
+request-from code (k ∷ []) = pick (one-key code) (some (asks code k (pos 0))) none
+request-from code (k ∷ (l ∷ [])) = pick (one-key code) none (some (asks code k l))
 request-from code (k ∷ (l ∷ (m ∷ ms))) = none
 
 abbrev pub request-of-words : List (List ℕ) → Option Request

@@ -8,7 +8,7 @@ use lib.Dec.{eqb, leb}
 use Rattle.catalogue.specs.Tests.{pick, eqZ, every, member}
 use Rattle.catalogue.specs.Numbers.{head, transit, most-edges}
 use Rattle.catalogue.specs.Catalogue.{Catalogue, vertex-key, vertex-link, first-link, edge-key, edge-link, edge-target, at-vertex, at-edge, at-target, at-mark}
-use Rattle.catalogue.specs.Live.{vertices, edges-of, unmarked, live-vertices, live-edges-of, gather}
+use Rattle.catalogue.specs.Live.{vertices, edges-of, unmarked, live-vertices, live-edges}
 
 -- Which of the two calls asks: a sweep has no use for an edge on trial, a listing passes it.
 pub data Asks : Type 0 where
@@ -44,6 +44,6 @@ unfoldable pub sound : Asks → Catalogue → Bool
 sound asks C =
     pick (unmarked C head)
     (pick (every (vertex-sound C) (head ∷ vertices C))
-    (pick (every (edges-sound asks C) (live-vertices C)) (leb (length (gather (live-edges-of C) (live-vertices C))) most-edges) false)
+    (pick (every (edges-sound asks C) (live-vertices C)) (leb (length (live-edges C)) most-edges) false)
     false)
     false

@@ -7,10 +7,10 @@ use lib.ListN.{length, getD}
 use lib.Dec.{eqb, leb, ltb}
 use Rattle.catalogue.specs.Tests.{pick}
 use Rattle.catalogue.specs.Numbers.{head, tail, edge-tail, least, plain, added, link}
-use Rattle.catalogue.specs.Catalogue.{Catalogue, vertex-key, edge-key, edge-target, at-target}
+use Rattle.catalogue.specs.Catalogue.{Catalogue, edge-key, edge-target, at-target}
 use Rattle.catalogue.specs.Workers.{busy}
 use Rattle.catalogue.specs.Calls.{count-fits}
-use Rattle.catalogue.specs.Live.{live-vertices, live-edges-of, gather}
+use Rattle.catalogue.specs.Live.{live-vertices, live-edges, live-keys}
 use Rattle.catalogue.specs.Soundness.{sound, sweep}
 use Rattle.catalogue.specs.declared.workers.Table.{Table}
 use Rattle.catalogue.specs.declared.answers.Refusal.{Refusal}
@@ -42,7 +42,7 @@ swept-edge C x e = record {
 
 -- All of them, by source and then by target key; the first one gets number 1.
 abbrev pub swept-edges : Catalogue → List Swept-edge
-swept-edges C = gather (λ x. map (swept-edge C x) (live-edges-of C x)) (live-vertices C)
+swept-edges C = map (λ d. swept-edge C (d .source) (d .edge)) (live-edges C)
 
 -- the number of the first edge with a given source, counted from a first number; the tail if there is none
 unfoldable pub first-of : ℕ → List Swept-edge → ℕ → ℕ
@@ -60,32 +60,35 @@ source-at es e = getD (0 ∷ map (λ d. d .source) es) e 0
 unfoldable pub next-swept-edge : List Swept-edge → ℕ → ℕ
 next-swept-edge es e = pick (eqb (source-at es e) (source-at es (suc e))) (suc e) edge-tail
 
--- The second catalogue, by node number; what no live vertex or edge takes is as in the fresh one.
-unfoldable pub swept : Catalogue → Catalogue
-swept C =
-    let n = length (live-vertices C) in
-    let es = swept-edges C in
-    let m = length es in
-    record {
-      vertices-out = n;
-      edges-out = m;
-      vkey = getD-of (least ∷ pos 0 ∷ map (vertex-key C) (live-vertices C));
-      vlink = λ i. pick (eqb i head) (link (next-swept n tail) plain) (pick (leb 2 i) (pick (ltb i (2 + n)) (link (next-swept n i) plain) 0) 0);
-      first = λ i. link (first-of i es 1) plain;
-      ekey = getD-of (pos 0 ∷ map (λ d. d .key) es);
-      target = λ e. getD (0 ∷ map (λ d. d .target) es) e 0;
-      elink = λ e. pick (leb 1 e) (pick (leb e m) (link (next-swept-edge es e) added) 0) 0;
-    }
+-- the links of n such vertices, and of such edges
+abbrev pub vlink-of : ℕ → ℕ → ℕ
+vlink-of n i = pick (eqb i head) (link (next-swept n tail) plain) (pick (leb 2 i) (pick (ltb i (2 + n)) (link (next-swept n i) plain) 0) 0)
+
+abbrev pub elink-of : List Swept-edge → ℕ → ℕ
+elink-of es e = pick (leb 1 e) (pick (leb e (length es)) (link (next-swept-edge es e) added) 0) 0
+
+-- The catalogue that holds keys, with numbers from 2 on, and edges, with numbers from 1 on.
+-- What none of them takes is as in the fresh one.
+unfoldable pub held : List ℤ → List Swept-edge → Catalogue
+held keys es = record {
+  counts = record { vertices = length keys; edges = length es };
+  vertices = record { key = getD-of (least ∷ pos 0 ∷ keys); link = vlink-of (length keys); first = λ i. link (first-of i es 1) plain };
+  edges = record { key = getD-of (pos 0 ∷ map (λ d. d .key) es); target = λ e. getD (0 ∷ map (λ d. d .target) es) e 0; link = elink-of es };
+}
   where
     getD-of : List ℤ → ℕ → ℤ
     getD-of keys i = getD keys i (pos 0)
+
+-- The second catalogue: it holds the live vertices and edges.
+abbrev pub swept : Catalogue → Catalogue
+swept C = held (live-keys C) (swept-edges C)
 
 -- 22: a worker below a number is busy.
 unfoldable pub any-busy : Table → ℕ → Bool
 any-busy t zero = false
 any-busy t (suc n) = pick (busy t n) true (any-busy t n)
 
--- What a sweep leaves in the second catalogue, and its answer. The first catalogue and the table stay.
+-- The second catalogue after a sweep, and the answer. The first catalogue and the table are unchanged.
 pub record After-sweep : Type 0 where
   pub second : Catalogue
   pub answer : Made

@@ -46,7 +46,7 @@ unfoldable pub member : ℕ → List ℕ → Bool
 member n [] = false
 member n (x ∷ xs) = pick (eqb n x) true (member n xs)
 
--- the values of a function at 0, 1, .. below a number, as a list
+-- a list of so many values of a function, from a first number on
 unfoldable pub table-from : {A : Type 0} → (ℕ → A) → ℕ → ℕ → List A
 table-from f from zero = []
 table-from f from (suc n) = f from ∷ table-from f (suc from) n

@@ -1,5 +1,6 @@
--- What each kind of write leaves in the catalogue: document 01, "The steps", the paragraphs on AddV and on AddE. A new node is filled, then counted,
--- then linked. The order shows only where the new node is p itself (a node linked though never handed out): the last link wins there.
+-- The catalogue after each kind of write: document 01, "The steps", the paragraphs on AddV and on AddE.
+-- A new node is filled, then counted, then linked. The order shows only where the new node is p itself
+-- (a node linked though never handed out): the last link wins there.
 use Prim.Native.Nat.{ℕ, _-_}
 use lib.IntN.{ℤ}
 use Rattle.catalogue.specs.Tests.{upd}
@@ -10,64 +11,39 @@ use Rattle.catalogue.specs.declared.writes.Write.the-variants.{Nothing, 
 
 abbrev pub with-vertex-link : Catalogue → ℕ → ℕ → Catalogue
 with-vertex-link C n word = record {
-  vertices-out = C .vertices-out;
-  edges-out = C .edges-out;
-  vkey = C .vkey;
-  vlink = upd (C .vlink) n word;
-  first = C .first;
-  ekey = C .ekey;
-  target = C .target;
-  elink = C .elink;
+  counts = C .counts;
+  vertices = record { key = C .vertices .key; link = upd (C .vertices .link) n word; first = C .vertices .first };
+  edges = C .edges;
 }
 
 abbrev pub with-first : Catalogue → ℕ → ℕ → Catalogue
 with-first C n word = record {
-  vertices-out = C .vertices-out;
-  edges-out = C .edges-out;
-  vkey = C .vkey;
-  vlink = C .vlink;
-  first = upd (C .first) n word;
-  ekey = C .ekey;
-  target = C .target;
-  elink = C .elink;
+  counts = C .counts;
+  vertices = record { key = C .vertices .key; link = C .vertices .link; first = upd (C .vertices .first) n word };
+  edges = C .edges;
 }
 
 abbrev pub with-edge-link : Catalogue → ℕ → ℕ → Catalogue
 with-edge-link C n word = record {
-  vertices-out = C .vertices-out;
-  edges-out = C .edges-out;
-  vkey = C .vkey;
-  vlink = C .vlink;
-  first = C .first;
-  ekey = C .ekey;
-  target = C .target;
-  elink = upd (C .elink) n word;
+  counts = C .counts;
+  vertices = C .vertices;
+  edges = record { key = C .edges .key; target = C .edges .target; link = upd (C .edges .link) n word };
 }
 
 -- a vertex with no edges, filled and counted; its number is two above the count before
 abbrev pub with-vertex : Catalogue → ℕ → ℤ → ℕ → Catalogue
 with-vertex C n key next = record {
-  vertices-out = n - 1;
-  edges-out = C .edges-out;
-  vkey = upd (C .vkey) n key;
-  vlink = upd (C .vlink) n (link next plain);
-  first = upd (C .first) n (link edge-tail plain);
-  ekey = C .ekey;
-  target = C .target;
-  elink = C .elink;
+  counts = record { vertices = n - 1; edges = C .counts .edges };
+  vertices = record { key = upd (C .vertices .key) n key; link = upd (C .vertices .link) n (link next plain); first = upd (C .vertices .first) n (link edge-tail plain) };
+  edges = C .edges;
 }
 
 -- an edge on trial, filled and counted; its number is one above the count before
 abbrev pub with-edge : Catalogue → ℕ → ℤ → ℕ → ℕ → Catalogue
 with-edge C n key target next = record {
-  vertices-out = C .vertices-out;
-  edges-out = n;
-  vkey = C .vkey;
-  vlink = C .vlink;
-  first = C .first;
-  ekey = upd (C .ekey) n key;
-  target = upd (C .target) n target;
-  elink = upd (C .elink) n (link next transit);
+  counts = record { vertices = C .counts .vertices; edges = n };
+  vertices = C .vertices;
+  edges = record { key = upd (C .edges .key) n key; target = upd (C .edges .target) n target; link = upd (C .edges .link) n (link next transit) };
 }
 
 unfoldable pub commit : Catalogue → Write → Catalogue

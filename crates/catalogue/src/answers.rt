@@ -1,8 +1,10 @@
 // What the calls answer.
+use crate::workers::Place;
 use crate::workers::Table;
 use crate::workers::Worker;
 
-// The refusals that a call on workers and catalogues can give. That of a script carries its line: see the module `script`.
+// The refusals that a call on workers and catalogues can give.
+// That of a script carries its line: see the module `script`.
 pub enum Refusal {
     Room,
     Worker,
@@ -13,14 +15,21 @@ pub enum Refusal {
     Torn,
 }
 
-// What taking up and a step answer: going on, with the number of series that the trial has met; a reply; or a refusal.
+// What taking up and a step answer: going on, with the number of series that the trial has met; a reply; or a
+// refusal.
 pub enum Answer {
     Going { met: u32 },
     Reply { number: u8 },
     Refused { refusal: Refusal },
 }
 
-// The answer, with the table as the call leaves it.
+// What taking up answers for one worker: the first place of the request, or a refusal.
+pub enum Admission {
+    Begins { place: Place },
+    Refused { refusal: Refusal },
+}
+
+// The answer, with the table after the call.
 pub struct Outcome {
     pub table: Table,
     pub answer: Answer,

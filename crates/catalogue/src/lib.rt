@@ -1,4 +1,5 @@
-// The declared types that the definitions of document 01 speak of. The definitions stand in specs/, in the document's order.
+// The declared types that the definitions of document 01 speak of.
+// The definitions stand in specs/, in the document's order.
 pub mod answers;
 pub mod links;
 pub mod listing;

@@ -1,5 +1,6 @@
-// What a read of the lent catalogue answers. Each word is taken apart once, where it is read; `Torn` is the answer for a word that document 01
-// does not allow there (The steps, the paragraph on TORN), so that a reader who forgets the case is refused by the compiler.
+// What a read of the lent catalogue answers. Each word is taken apart once, where it is read.
+// `Torn` is the answer for a word that document 01 does not allow there (The steps, the paragraph on TORN).
+// The compiler refuses a reader that forgets the case.
 
 // A vertex's link: the next vertex, and the tag of the vertex that owns the link.
 pub enum VertexLink {
@@ -7,7 +8,8 @@ pub enum VertexLink {
     Torn,
 }
 
-// A link that leads to an edge: a vertex's first-edge link, or the link of an edge node. The tag belongs to the node that owns the link.
+// A link that leads to an edge: a vertex's first-edge link, or the link of an edge node.
+// The tag belongs to the node that owns the link.
 pub enum EdgeLink {
     At { next: u16, tag: u8 },
     Torn,

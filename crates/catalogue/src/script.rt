@@ -1,4 +1,5 @@
-// What running a script answers: how many bytes it wrote, or a refusal; refusal 27 carries the number of the first bad line.
+// What running a script answers: how many bytes it wrote, or a refusal;
+// refusal 27 carries the number of the first bad line.
 use crate::answers::Refusal;
 
 pub enum Ran {

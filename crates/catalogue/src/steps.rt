@@ -30,32 +30,28 @@ pub enum BothSeen {
     Standing,
 }
 
+// An edge c at which a look settles: p's tag, c's next and tag, and whether c's key is equal.
+pub struct Landed {
+    pub kept: u8,
+    pub next: u16,
+    pub tag: u8,
+    pub equal: bool,
+}
+
 // One look of AddE and RemE at p and c: a case for each of (a) to (f).
 pub enum EdgeSeen {
     Torn,
     Dead,
     Again,
     // p's tag, which is kept, and c's next
-    Unlinks {
-        kept: u8,
-        next: u16,
-    },
-    Marks {
-        next: u16,
-    },
-    Onward {
-        next: u16,
-    },
-    // p's tag, c's next and tag, and whether c's key is equal
-    Settles {
-        kept: u8,
-        next: u16,
-        tag: u8,
-        equal: bool,
-    },
+    Unlinks { kept: u8, next: u16 },
+    Marks { next: u16 },
+    Onward { next: u16 },
+    Settles { at: Landed },
 }
 
-// What a step decides. It has read all that it reads; the record after it and at most one write follow from this alone.
+// What a step decides. It has read all that it reads;
+// the record after it and at most one write follow from this alone.
 pub enum Decision {
     Torn,
     // no call has this code

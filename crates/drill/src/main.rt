@@ -1,4 +1,5 @@
-// The drill: a script from standard input, its result to standard output. One byte more than the longest script is read, so that a longer one is told as such.
+// The drill: a script from standard input, its result to standard output.
+// One byte more than the longest script is read, so that a longer one is seen to be too long.
 use memory::KEYS_SIZE;
 use memory::WORDS_SIZE;
 use run::drills::drill;

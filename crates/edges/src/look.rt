@@ -8,6 +8,8 @@ use catalogue::links::Target;
 use catalogue::links::VertexLink;
 use catalogue::steps::BothSeen;
 use catalogue::steps::EdgeSeen;
+use catalogue::steps::Landed;
+use catalogue::workers::Ends;
 use catalogue::workers::Prev;
 use looks::both::see_both;
 use memory::reads::edge_key;
@@ -28,39 +30,51 @@ fn link_behind(keys: &[i32], words: &[u32], u: u8, p: Prev) -> EdgeLink
 }
 
 // (e), (f): the key of c.
-fn see_key(keys: &[i32], words: &[u32], l: i32, c: u16, kept: u8, next: u16, tag: u8) -> EdgeSeen
+fn see_key(
+    keys: &[i32],
+    words: &[u32],
+    ends: Ends,
+    c: u16,
+    kept: u8,
+    next: u16,
+    tag: u8,
+) -> EdgeSeen
     requires { ⌜ Sized (now keys) (now words) ⌝ }
     requires { ⌜ c < 2048 ⌝ }
-    ensures { λ r. ⌜ r ≡ see-key (catalogue-in (now (keys .entry)) (now (words .entry))) l c kept next tag ⌝ }
+    ensures { λ r. ⌜ r ≡ see-key (catalogue-in (now (keys .entry)) (now (words .entry))) (ends .pair .l) c kept next tag ⌝ }
 {
     let key = edge_key(keys, c);
-    if key < l {
+    if key < ends.pair.l {
         return EdgeSeen::Onward { next };
     }
-    if key == l {
+    if key == ends.pair.l {
         return EdgeSeen::Settles {
-            kept,
-            next,
-            tag,
-            equal: true,
+            at: Landed {
+                kept,
+                next,
+                tag,
+                equal: true,
+            },
         };
     }
     EdgeSeen::Settles {
-        kept,
-        next,
-        tag,
-        equal: false,
+        at: Landed {
+            kept,
+            next,
+            tag,
+            equal: false,
+        },
     }
 }
 
 // (c), (d): the tag of c, and for an ADDED edge the mark of its target.
-fn see_edge(keys: &[i32], words: &[u32], l: i32, c: u16, kept: u8) -> EdgeSeen
+fn see_edge(keys: &[i32], words: &[u32], ends: Ends, c: u16, kept: u8) -> EdgeSeen
     requires { ⌜ Sized (now keys) (now words) ⌝ }
     requires { ⌜ c < 2048 ⌝ }
-    ensures { λ r. ⌜ r ≡ see-edge (catalogue-in (now (keys .entry)) (now (words .entry))) l c kept ⌝ }
+    ensures { λ r. ⌜ r ≡ see-edge (catalogue-in (now (keys .entry)) (now (words .entry))) (ends .pair .l) c kept ⌝ }
 {
     if c == 0 {
-        return see_key(keys, words, l, c, kept, 0, 0);
+        return see_key(keys, words, ends, c, kept, 0, 0);
     }
     let EdgeLink::At { next, tag } = edge_link(words, c) else {
         return EdgeSeen::Torn;
@@ -78,17 +92,17 @@ fn see_edge(keys: &[i32], words: &[u32], l: i32, c: u16, kept: u8) -> EdgeSeen
         if mark == 1 {
             return EdgeSeen::Marks { next };
         }
-        return see_key(keys, words, l, c, kept, next, tag);
+        return see_key(keys, words, ends, c, kept, next, tag);
     }
-    see_key(keys, words, l, c, kept, next, tag)
+    see_key(keys, words, ends, c, kept, next, tag)
 }
 
 // (b): p is MARKED, or does not lead to c.
-fn see_behind(keys: &[i32], words: &[u32], l: i32, u: u8, p: Prev, c: u16) -> EdgeSeen
+fn see_behind(keys: &[i32], words: &[u32], ends: Ends, p: Prev, c: u16) -> EdgeSeen
     requires { ⌜ Sized (now keys) (now words) ⌝ }
-    ensures { λ r. ⌜ r ≡ see-behind (catalogue-in (now (keys .entry)) (now (words .entry))) l u p c ⌝ }
+    ensures { λ r. ⌜ r ≡ see-behind (catalogue-in (now (keys .entry)) (now (words .entry))) (ends .pair .l) (ends .u) p c ⌝ }
 {
-    let EdgeLink::At { next, tag } = link_behind(keys, words, u, p) else {
+    let EdgeLink::At { next, tag } = link_behind(keys, words, ends.u, p) else {
         return EdgeSeen::Torn;
     };
     if tag == 1 {
@@ -96,7 +110,7 @@ fn see_behind(keys: &[i32], words: &[u32], l: i32, u: u8, p: Prev, c: u16) -> Ed
     }
     if c < 2048 {
         if next == c {
-            return see_edge(keys, words, l, c, tag);
+            return see_edge(keys, words, ends, c, tag);
         }
         return EdgeSeen::Again;
     }
@@ -104,14 +118,14 @@ fn see_behind(keys: &[i32], words: &[u32], l: i32, u: u8, p: Prev, c: u16) -> Ed
 }
 
 // (a): u or v marked; then the rest.
-pub fn look_at_edge(keys: &[i32], words: &[u32], l: i32, u: u8, v: u8, p: Prev, c: u16) -> EdgeSeen
+pub fn look_at_edge(keys: &[i32], words: &[u32], ends: Ends, p: Prev, c: u16) -> EdgeSeen
     requires { ⌜ Sized (now keys) (now words) ⌝ }
-    ensures { λ r. ⌜ r ≡ look-at-edge (catalogue-in (now (keys .entry)) (now (words .entry))) l u v p c ⌝ }
+    ensures { λ r. ⌜ r ≡ look-at-edge (catalogue-in (now (keys .entry)) (now (words .entry))) ends p c ⌝ }
 {
-    let both = see_both(keys, words, u, v);
+    let both = see_both(keys, words, ends.u, ends.v);
     match both {
         BothSeen::Torn => EdgeSeen::Torn,
         BothSeen::Dead => EdgeSeen::Dead,
-        BothSeen::Standing => see_behind(keys, words, l, u, p, c),
+        BothSeen::Standing => see_behind(keys, words, ends, p, c),
     }
 }

@@ -6,6 +6,8 @@ ghost use Rattle.catalogue.specs.Steps.Edges.{insert, new-edge, settle-add-edge
 ghost use Rattle.catalogue.specs.declared.writes.Write.the-variants.{EdgeLink};
 use catalogue::links::Room;
 use catalogue::steps::Decision;
+use catalogue::steps::Landed;
+use catalogue::workers::Ends;
 use catalogue::workers::Place;
 use catalogue::workers::Prev;
 use catalogue::writes::Write;
@@ -19,22 +21,22 @@ pub fn mark_edge(edge: u16, next: u16) -> Write
     Write::EdgeLink { edge, next, tag: 1 }
 }
 
-// The write that puts a new edge behind p, whose tag is kept.
-fn insert(u: u8, p: Prev, kept: u8, n: u16, l: i32, v: u8, next: u16) -> Write
-    ensures { λ r. ⌜ r ≡ insert u p kept n l v next ⌝ }
+// The write that puts a new edge after p, whose tag is kept.
+fn insert(ends: Ends, p: Prev, kept: u8, n: u16, next: u16) -> Write
+    ensures { λ r. ⌜ r ≡ insert ends p kept n next ⌝ }
 {
     match p {
         Prev::First => Write::NewFirst {
             edge: n,
-            key: l,
-            target: v,
+            key: ends.pair.l,
+            target: ends.v,
             next,
-            u,
+            u: ends.u,
         },
         Prev::Edge { edge } => Write::NewEdge {
             edge: n,
-            key: l,
-            target: v,
+            key: ends.pair.l,
+            target: ends.v,
             next,
             p: edge,
             tag: kept,
@@ -42,23 +44,17 @@ fn insert(u: u8, p: Prev, kept: u8, n: u16, l: i32, v: u8, next: u16) -> Write
     }
 }
 
-// AddE with no such key: the pool's next edge goes behind p and its trial begins; or none is left.
-fn new_edge(left: Room, k: i32, l: i32, u: u8, v: u8, p: Prev, c: u16, kept: u8) -> Decision
-    ensures { λ r. ⌜ r ≡ new-edge left k l u v p c kept ⌝ }
+// AddE with no such key: the pool's next edge goes after p and its trial begins; or none is left.
+fn new_edge(left: Room, ends: Ends, p: Prev, c: u16, kept: u8) -> Decision
+    ensures { λ r. ⌜ r ≡ new-edge left ends p c kept ⌝ }
 {
     match left {
         Room::Next { node } => {
-            let write = insert(u, p, kept, node, l, v, c);
+            let write = insert(ends, p, kept, node, c);
             Decision::Begins {
-                next: Place::Trial {
-                    k,
-                    l,
-                    u,
-                    v,
-                    e: node,
-                },
+                next: Place::Trial { ends, e: node },
                 write,
-                met: v,
+                met: ends.v,
             }
         }
         Room::Full => reply(9),
@@ -67,39 +63,27 @@ fn new_edge(left: Room, k: i32, l: i32, u: u8, v: u8, p: Prev, c: u16, kept: u8)
 }
 
 // AddE: the key is there, on trial or added; or a new edge is wanted.
-fn settle_add_edge(
-    keys: &[i32],
-    words: &[u32],
-    k: i32,
-    l: i32,
-    u: u8,
-    v: u8,
-    p: Prev,
-    c: u16,
-    kept: u8,
-    tag: u8,
-    equal: bool,
-) -> Decision
+fn settle_add_edge(keys: &[i32], words: &[u32], ends: Ends, p: Prev, c: u16, at: Landed) -> Decision
     requires { ⌜ Sized (now keys) (now words) ⌝ }
-    ensures { λ r. ⌜ r ≡ settle-add-edge (catalogue-in (now (keys .entry)) (now (words .entry))) k l u v p c kept tag equal ⌝ }
+    ensures { λ r. ⌜ r ≡ settle-add-edge (catalogue-in (now (keys .entry)) (now (words .entry))) ends p c at ⌝ }
 {
-    if equal {
-        if tag == 2 {
+    if at.equal {
+        if at.tag == 2 {
             return reply(7);
         }
         return reply(4);
     }
     let left = edge_room(words);
-    new_edge(left, k, l, u, v, p, c, kept)
+    new_edge(left, ends, p, c, at.kept)
 }
 
 // RemE: an ADDED edge with the key gets its mark.
-fn settle_remove_edge(c: u16, next: u16, tag: u8, equal: bool) -> Decision
-    ensures { λ r. ⌜ r ≡ settle-remove-edge c next tag equal ⌝ }
+fn settle_remove_edge(c: u16, at: Landed) -> Decision
+    ensures { λ r. ⌜ r ≡ settle-remove-edge c at ⌝ }
 {
-    if equal {
-        if tag == 3 {
-            let write = mark_edge(c, next);
+    if at.equal {
+        if at.tag == 3 {
+            let write = mark_edge(c, at.next);
             return Decision::Reply { number: 1, write };
         }
         return reply(5);
@@ -111,23 +95,17 @@ pub fn settle_edge(
     keys: &[i32],
     words: &[u32],
     code: u32,
-    k: i32,
-    l: i32,
-    u: u8,
-    v: u8,
+    ends: Ends,
     p: Prev,
     c: u16,
-    kept: u8,
-    next: u16,
-    tag: u8,
-    equal: bool,
+    at: Landed,
 ) -> Decision
     requires { ⌜ Sized (now keys) (now words) ⌝ }
-    ensures { λ r. ⌜ r ≡ settle-edge (catalogue-in (now (keys .entry)) (now (words .entry))) code k l u v p c kept next tag equal ⌝ }
+    ensures { λ r. ⌜ r ≡ settle-edge (catalogue-in (now (keys .entry)) (now (words .entry))) code ends p c at ⌝ }
 {
     match code {
-        4 => settle_add_edge(keys, words, k, l, u, v, p, c, kept, tag, equal),
-        5 => settle_remove_edge(c, next, tag, equal),
+        4 => settle_add_edge(keys, words, ends, p, c, at),
+        5 => settle_remove_edge(c, at),
         _ => Decision::Code,
     }
 }

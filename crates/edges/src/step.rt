@@ -10,6 +10,7 @@ use crate::settle::settle_edge;
 use catalogue::links::EdgeLink;
 use catalogue::steps::Decision;
 use catalogue::steps::EdgeSeen;
+use catalogue::workers::Ends;
 use catalogue::workers::Prev;
 use catalogue::writes::Write;
 use looks::decisions::reply;
@@ -30,62 +31,47 @@ fn relink(u: u8, p: Prev, kept: u8, next: u16) -> Write
     }
 }
 
-// On to c behind p, with a write.
-fn go_on(code: u32, k: i32, l: i32, u: u8, v: u8, p: Prev, c: u16, write: Write) -> Decision
-    ensures { λ r. ⌜ r ≡ Going (edge-place code k l u v p c) write ⌝ }
+// On to c after p, with a write.
+fn go_on(code: u32, ends: Ends, p: Prev, c: u16, write: Write) -> Decision
+    ensures { λ r. ⌜ r ≡ Going (edge-place code ends p c) write ⌝ }
 {
-    let place = edge_place(code, k, l, u, v, p, c);
+    let place = edge_place(code, ends, p, c);
     Decision::Going { next: place, write }
 }
 
 // At the first-edge link of u again.
-fn restart(keys: &[i32], words: &[u32], code: u32, k: i32, l: i32, u: u8, v: u8) -> Decision
+fn restart(keys: &[i32], words: &[u32], code: u32, ends: Ends) -> Decision
     requires { ⌜ Sized (now keys) (now words) ⌝ }
-    ensures { λ r. ⌜ r ≡ restart (catalogue-in (now (keys .entry)) (now (words .entry))) code k l u v ⌝ }
+    ensures { λ r. ⌜ r ≡ restart (catalogue-in (now (keys .entry)) (now (words .entry))) code ends ⌝ }
 {
-    let EdgeLink::At { next, tag: _ } = first_link(words, u) else {
+    let EdgeLink::At { next, tag: _ } = first_link(words, ends.u) else {
         return Decision::Torn;
     };
-    go_on(code, k, l, u, v, Prev::First, next, Write::Nothing)
+    go_on(code, ends, Prev::First, next, Write::Nothing)
 }
 
 // One step of AddE (code 4) or RemE (code 5) at p and c.
-pub fn step_edge(
-    keys: &[i32],
-    words: &[u32],
-    code: u32,
-    k: i32,
-    l: i32,
-    u: u8,
-    v: u8,
-    p: Prev,
-    c: u16,
-) -> Decision
+pub fn step_edge(keys: &[i32], words: &[u32], code: u32, ends: Ends, p: Prev, c: u16) -> Decision
     requires { ⌜ Sized (now keys) (now words) ⌝ }
-    ensures { λ r. ⌜ r ≡ step-edge (catalogue-in (now (keys .entry)) (now (words .entry))) code k l u v p c ⌝ }
+    ensures { λ r. ⌜ r ≡ step-edge (catalogue-in (now (keys .entry)) (now (words .entry))) code ends p c ⌝ }
 {
-    let seen = look_at_edge(keys, words, l, u, v, p, c);
+    let seen = look_at_edge(keys, words, ends, p, c);
     match seen {
         EdgeSeen::Torn => Decision::Torn,
         EdgeSeen::Dead => reply(3),
-        EdgeSeen::Again => restart(keys, words, code, k, l, u, v),
+        EdgeSeen::Again => restart(keys, words, code, ends),
         EdgeSeen::Unlinks { kept, next } => {
-            let write = relink(u, p, kept, next);
-            go_on(code, k, l, u, v, p, next, write)
+            let write = relink(ends.u, p, kept, next);
+            go_on(code, ends, p, next, write)
         }
         EdgeSeen::Marks { next } => {
             let write = mark_edge(c, next);
-            go_on(code, k, l, u, v, p, c, write)
+            go_on(code, ends, p, c, write)
         }
         EdgeSeen::Onward { next } => {
             let behind = Prev::Edge { edge: c };
-            go_on(code, k, l, u, v, behind, next, Write::Nothing)
+            go_on(code, ends, behind, next, Write::Nothing)
         }
-        EdgeSeen::Settles {
-            kept,
-            next,
-            tag,
-            equal,
-        } => settle_edge(keys, words, code, k, l, u, v, p, c, kept, next, tag, equal),
+        EdgeSeen::Settles { at } => settle_edge(keys, words, code, ends, p, c, at),
     }
 }

@@ -6,6 +6,7 @@ use catalogue::links::EdgeLink;
 use catalogue::links::Target;
 use catalogue::steps::BothSeen;
 use catalogue::steps::Decision;
+use catalogue::workers::Ends;
 use catalogue::workers::Place;
 use looks::both::see_both;
 use looks::decisions::go_to;
@@ -15,9 +16,9 @@ use memory::reads::edge_link;
 use memory::reads::edge_target;
 
 // At an edge with the key l: its tag, its target, then the marks of u and v.
-fn settle_contains_edge(keys: &[i32], words: &[u32], u: u8, v: u8, c: u16) -> Decision
+fn settle_contains_edge(keys: &[i32], words: &[u32], ends: Ends, c: u16) -> Decision
     requires { ⌜ Sized (now keys) (now words) ⌝ }
-    ensures { λ r. ⌜ r ≡ settle-contains-edge (catalogue-in (now (keys .entry)) (now (words .entry))) u v c ⌝ }
+    ensures { λ r. ⌜ r ≡ settle-contains-edge (catalogue-in (now (keys .entry)) (now (words .entry))) ends c ⌝ }
 {
     let no = reply(8);
     let EdgeLink::At { next: _, tag } = edge_link(words, c) else {
@@ -27,8 +28,8 @@ fn settle_contains_edge(keys: &[i32], words: &[u32], u: u8, v: u8, c: u16) -> De
         let Target::At { vertex } = edge_target(words, c) else {
             return Decision::Torn;
         };
-        if vertex == v {
-            let both = see_both(keys, words, u, v);
+        if vertex == ends.v {
+            let both = see_both(keys, words, ends.u, ends.v);
             return match both {
                 BothSeen::Torn => Decision::Torn,
                 BothSeen::Dead => no,
@@ -41,34 +42,20 @@ fn settle_contains_edge(keys: &[i32], words: &[u32], u: u8, v: u8, c: u16) -> De
 }
 
 // One step of ConE at the edge c.
-pub fn step_contains_edge(
-    keys: &[i32],
-    words: &[u32],
-    k: i32,
-    l: i32,
-    u: u8,
-    v: u8,
-    c: u16,
-) -> Decision
+pub fn step_contains_edge(keys: &[i32], words: &[u32], ends: Ends, c: u16) -> Decision
     requires { ⌜ Sized (now keys) (now words) ⌝ }
-    ensures { λ r. ⌜ r ≡ step-contains-edge (catalogue-in (now (keys .entry)) (now (words .entry))) k l u v c ⌝ }
+    ensures { λ r. ⌜ r ≡ step-contains-edge (catalogue-in (now (keys .entry)) (now (words .entry))) ends c ⌝ }
 {
     if c < 2048 {
         let key = edge_key(keys, c);
-        if key < l {
+        if key < ends.pair.l {
             let EdgeLink::At { next, tag: _ } = edge_link(words, c) else {
                 return Decision::Torn;
             };
-            return go_to(Place::ConE {
-                k,
-                l,
-                u,
-                v,
-                c: next,
-            });
+            return go_to(Place::ConE { ends, c: next });
         }
-        if key == l {
-            return settle_contains_edge(keys, words, u, v, c);
+        if key == ends.pair.l {
+            return settle_contains_edge(keys, words, ends, c);
         }
         return reply(8);
     }

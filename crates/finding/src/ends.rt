@@ -7,6 +7,8 @@ use catalogue::links::EdgeLink;
 use catalogue::links::VertexLink;
 use catalogue::steps::Decision;
 use catalogue::steps::VertexFound;
+use catalogue::workers::Ends;
+use catalogue::workers::Pair;
 use looks::decisions::go_to;
 use looks::decisions::reply;
 use looks::places::edges_place;
@@ -25,30 +27,30 @@ fn not_found(code: u32) -> u8
 }
 
 // u is found: v is looked for from the head's next on.
-fn found_u(keys: &[i32], words: &[u32], code: u32, k: i32, l: i32, u: u8) -> Decision
+fn found_u(keys: &[i32], words: &[u32], code: u32, pair: Pair, u: u8) -> Decision
     requires { ⌜ Sized (now keys) (now words) ⌝ }
-    ensures { λ r. ⌜ r ≡ found-u (catalogue-in (now (keys .entry)) (now (words .entry))) code k l u ⌝ }
+    ensures { λ r. ⌜ r ≡ found-u (catalogue-in (now (keys .entry)) (now (words .entry))) code pair u ⌝ }
 {
     let VertexLink::At { next, tag: _ } = vertex_link(words, 0) else {
         return Decision::Torn;
     };
-    let place = find_v_place(code, k, l, u, next);
+    let place = find_v_place(code, pair, u, next);
     go_to(place)
 }
 
 // One step of finding u for k.
-pub fn step_find_u(keys: &[i32], words: &[u32], code: u32, k: i32, l: i32, c: u8) -> Decision
+pub fn step_find_u(keys: &[i32], words: &[u32], code: u32, pair: Pair, c: u8) -> Decision
     requires { ⌜ Sized (now keys) (now words) ⌝ }
-    ensures { λ r. ⌜ r ≡ step-find-u (catalogue-in (now (keys .entry)) (now (words .entry))) code k l c ⌝ }
+    ensures { λ r. ⌜ r ≡ step-find-u (catalogue-in (now (keys .entry)) (now (words .entry))) code pair c ⌝ }
 {
-    let found = look_for(keys, words, k, c);
+    let found = look_for(keys, words, pair.k, c);
     match found {
         VertexFound::Torn => Decision::Torn,
         VertexFound::Onward { next } => {
-            let place = find_u_place(code, k, l, next);
+            let place = find_u_place(code, pair, next);
             go_to(place)
         }
-        VertexFound::Found => found_u(keys, words, code, k, l, c),
+        VertexFound::Found => found_u(keys, words, code, pair, c),
         VertexFound::Missing => {
             let number = not_found(code);
             reply(number)
@@ -57,30 +59,30 @@ pub fn step_find_u(keys: &[i32], words: &[u32], code: u32, k: i32, l: i32, c: u8
 }
 
 // v is found: the edges of u are looked at from its first-edge link on.
-fn found_v(keys: &[i32], words: &[u32], code: u32, k: i32, l: i32, u: u8, v: u8) -> Decision
+fn found_v(keys: &[i32], words: &[u32], code: u32, ends: Ends) -> Decision
     requires { ⌜ Sized (now keys) (now words) ⌝ }
-    ensures { λ r. ⌜ r ≡ found-v (catalogue-in (now (keys .entry)) (now (words .entry))) code k l u v ⌝ }
+    ensures { λ r. ⌜ r ≡ found-v (catalogue-in (now (keys .entry)) (now (words .entry))) code ends ⌝ }
 {
-    let EdgeLink::At { next, tag: _ } = first_link(words, u) else {
+    let EdgeLink::At { next, tag: _ } = first_link(words, ends.u) else {
         return Decision::Torn;
     };
-    let place = edges_place(code, k, l, u, v, next);
+    let place = edges_place(code, ends, next);
     go_to(place)
 }
 
 // One step of finding v for l.
-pub fn step_find_v(keys: &[i32], words: &[u32], code: u32, k: i32, l: i32, u: u8, c: u8) -> Decision
+pub fn step_find_v(keys: &[i32], words: &[u32], code: u32, pair: Pair, u: u8, c: u8) -> Decision
     requires { ⌜ Sized (now keys) (now words) ⌝ }
-    ensures { λ r. ⌜ r ≡ step-find-v (catalogue-in (now (keys .entry)) (now (words .entry))) code k l u c ⌝ }
+    ensures { λ r. ⌜ r ≡ step-find-v (catalogue-in (now (keys .entry)) (now (words .entry))) code pair u c ⌝ }
 {
-    let found = look_for(keys, words, l, c);
+    let found = look_for(keys, words, pair.l, c);
     match found {
         VertexFound::Torn => Decision::Torn,
         VertexFound::Onward { next } => {
-            let place = find_v_place(code, k, l, u, next);
+            let place = find_v_place(code, pair, u, next);
             go_to(place)
         }
-        VertexFound::Found => found_v(keys, words, code, k, l, u, c),
+        VertexFound::Found => found_v(keys, words, code, Ends { pair, u, v: c }),
         VertexFound::Missing => {
             let number = not_found(code);
             reply(number)

@@ -1,5 +1,5 @@
-// The same request on many edges. An edge leads from a vertex to each fourteenth vertex below it, which is more edges than fit; the trial of a new one
-// has the edges of its target to go through.
+// The same request on many edges. An edge leads from a vertex to each fourteenth vertex below it,
+// which is more edges than fit. The trial of a new one has the edges of its target to go through.
 ghost use Prim.Native.Nat.{_<_};
 use asking::perform::perform;
 use asking::tally::Tally;

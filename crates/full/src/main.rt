@@ -1,4 +1,5 @@
-// A catalogue filled through the calls until neither pool has a node left, listed, swept, thinned out, swept again and filled again.
+// A catalogue filled through the calls until neither pool has a node left,
+// then listed, swept, thinned out, swept again and filled again.
 mod edges;
 
 use asking::perform::made_number;
@@ -6,21 +7,21 @@ use asking::print::print_line;
 use asking::print::print_listing;
 use asking::print::print_tally;
 use asking::vertices::on_vertices;
+use clearing::fresh::fresh;
 use edges::on_edges;
 use memory::KEYS_SIZE;
 use memory::WORDS_SIZE;
-use memory::fresh::fresh;
 use sweep::sweep::sweep;
 use workers::table::idle_table;
 
-// Every vertex and every edge is asked for; what is there already, or has no room, is told in the tally.
+// Every vertex and every edge is asked for; the tally says what is there already, or has no room.
 fn fill(keys: &mut [i32], words: &mut [u32]) {
     print_tally(on_vertices(keys, words, 1, 0, 1));
     print_tally(on_edges(keys, words, 4, 1));
     print_listing(keys, words);
 }
 
-// Some vertices and some edges; what is removed stays where it stands, MARKED.
+// Some vertices and some edges; what is removed keeps its place, MARKED.
 fn thin_out(keys: &mut [i32], words: &mut [u32]) {
     print_tally(on_vertices(keys, words, 2, 5, 10));
     print_tally(on_edges(keys, words, 5, 8));

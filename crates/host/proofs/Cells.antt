@@ -1,4 +1,5 @@
--- One record of a lent table in memory: it is taken out of the table, and it or another is put back, also as steps of a walk. At any `Given`.
+-- One record of a lent table in memory: it is taken out of the table, and it or another is put back, also as steps
+-- of a walk. At any `Given`.
 use Prim.Native.Nat.{ℕ, _+_, _<_}
 use mathlib.Core.List.{List, [], _∷_}
 use mathlib.Core.Path.{refl, sym, _∙_, subst}
@@ -24,13 +25,13 @@ use denote.RattleType.{RattleType}
 use borrow.Struct.Behind.{put-at}
 use borrow.Struct.Items.{cut-records}
 use borrow.Struct.Way.{Cut}
-use Rattle.numbers.specs.Kept.{empty, record-at, put-record}
-use Rattle.numbers.specs.declared.kept.Kept.{Kept}
-use Rattle.numbers.specs.declared.kept.Record.{Record}
-use Rattle.numbers.proofs.kept.Kept as K
-use Rattle.numbers.proofs.kept.Kept.Laws as K′
-use Rattle.numbers.proofs.kept.Record as R
-use Rattle.numbers.proofs.kept.Record.Laws as R′
+use Rattle.border.specs.Kept.{empty, record-at, put-record}
+use Rattle.border.specs.declared.kept.Kept.{Kept}
+use Rattle.border.specs.declared.kept.Record.{Record}
+use Rattle.border.proofs.kept.Kept as K
+use Rattle.border.proofs.kept.Kept.Laws as K′
+use Rattle.border.proofs.kept.Record as R
+use Rattle.border.proofs.kept.Record.Laws as R′
 
 -- a value in memory is its machine values and what they own
 module _ {M : Type 1} (𝓤 : URA M) (H : Heap 𝓤) (A : Atoms 𝓤) (W : Given 𝓤 H A) (R : RattleType) (x : R .Denot) (b o : ℕ) where

@@ -1,4 +1,5 @@
--- One record read and stored back is the call on the whole table: what each way out leaves, in any table that has the record.
+-- One record read and stored back is the call on the whole table: the result of each way out, in any table
+-- that has the record.
 use Prim.Native.Nat.{ℕ, zero, suc, _<_}
 use mathlib.Core.Bool.{Bool, true, false, true≢false}
 use mathlib.Core.List.{List, [], _∷_, map}
@@ -18,11 +19,11 @@ use Rattle.catalogue.specs.declared.answers.Outcome.{Outcome}
 use Rattle.catalogue.specs.declared.answers.Refusal.{Refusal}
 use Rattle.catalogue.specs.declared.workers.Table.{Table}
 use Rattle.catalogue.specs.declared.workers.Worker.{Worker}
-use Rattle.numbers.specs.Kept.{prev-in, edge-place-in, finding-place-in, place-in, worker-in, table-in, record-of, put-record, empty, record-at, slot}
-use Rattle.numbers.specs.Packing.{packed-answer}
-use Rattle.numbers.specs.declared.kept.Kept.{Kept}
-use Rattle.numbers.specs.declared.kept.Record.{Record}
-use Rattle.numbers.proofs.Places.{worker-back}
+use Rattle.border.specs.Kept.{prev-in, edge-place-in, finding-place-in, place-in, worker-in, table-in, record-of, put-record, empty, record-at, slot}
+use Rattle.border.specs.Packing.{packed-answer}
+use Rattle.border.specs.declared.kept.Kept.{Kept}
+use Rattle.border.specs.declared.kept.Record.{Record}
+use Rattle.border.proofs.Places.{worker-back}
 use Rattle.host.specs.Promised.{refuses, left-of, Leaves}
 use Rattle.host.specs.Moves.{refused, moved, settled}
 use Rattle.host.specs.declared.one.Moved.{Moved}
@@ -57,7 +58,7 @@ set-read f g d (x ∷ xs) zero y = refl
 set-read f g d (x ∷ xs) (suc n) y = ap (λ zs. x ∷ zs) (set-read f g d xs n y)
 
 module _ (t : Kept) (n : ℕ) where
-  -- the record as it was leaves the table as it was
+  -- an unchanged record keeps the table unchanged
   pub same-kept : put-record t n (record-at t n) ≡ t
   same-kept = ap (λ (rs : List Record). record { count = t .count; records = rs }) (set-getD (t .records) n empty)
 
@@ -74,7 +75,7 @@ module _ (t : Kept) (n : ℕ) where
   record-put : (w : Worker) → put-record t n (record-of w) ≡ put-record t n (record-of (worker-at (put (table-in t) n w) n))
   record-put w = ap (λ (rs : List Record). record { count = t .count; records = rs }) (set-read worker-in record-of blank (t .records) n w)
 
-  -- an answer that is no refusal leaves it written down
+  -- an answer that is no refusal writes it down
   pub left-put : (w : Worker) (a : Answer) → refuses a ≡ false → put-record t n (record-of w) ≡ left-of t n (record { table = put (table-in t) n w; answer = a })
   left-put w a kept = record-put w ∙ ap (λ (b : Bool). pick b t (put-record t n (record-of (worker-at (put (table-in t) n w) n)))) (sym kept)
 

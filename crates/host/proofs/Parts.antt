@@ -1,4 +1,5 @@
--- What the walks speak of: the machine values of a table, the parts of what a call gives, and the numbers on the way to a record.
+-- What the walks speak of: the machine values of a table, the parts of what a call gives, and the numbers on the way
+-- to a record.
 use Prim.Native.Nat.{ℕ, _+_, _*_, _<_, _^_}
 use mathlib.Core.List.{List, [], _∷_}
 use mathlib.Core.Path.{_≡_, sym}
@@ -7,11 +8,11 @@ use mir.Val.{Val}
 use denote.Index.{place-is}
 use denote.Laws.{Is}
 use denote.Struct.Laws as LL
-use Rattle.numbers.specs.Kept.{slot}
-use Rattle.numbers.specs.declared.kept.Kept.{Kept}
-use Rattle.numbers.proofs.kept.Kept as K
-use Rattle.numbers.proofs.kept.Kept.Laws as K′
-use Rattle.numbers.proofs.kept.Record as R
+use Rattle.border.specs.Kept.{slot}
+use Rattle.border.specs.declared.kept.Kept.{Kept}
+use Rattle.border.proofs.kept.Kept as K
+use Rattle.border.proofs.kept.Kept.Laws as K′
+use Rattle.border.proofs.kept.Record as R
 use Rattle.host.specs.declared.one.Moved.{Moved}
 use Rattle.host.proofs.one.Moved as S
 use Rattle.host.proofs.one.Moved.Laws as S′

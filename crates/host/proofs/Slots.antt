@@ -1,4 +1,5 @@
--- The call by which a walk learns which record it reads: its contract, what the call asks, and what it says. At any `Given`.
+-- The call by which a walk learns which record it reads: its contract, what the call asks, and what it says. At any
+-- `Given`.
 use mathlib.Core.Path.{_≡_, refl}
 use Prim.Native.Nat.{ℕ, _<_, _^_}
 use mathlib.Core.List.{[], _∷_}
@@ -19,7 +20,7 @@ use denote.Steps.{owned, nothing}
 use denote.Triple.Statement.{Contract}
 use denote.Triple.Spec.{tripleOf}
 use denote.Triple.Clauses.{ensured, lasts}
-use Rattle.numbers.specs.Kept.{slot}
+use Rattle.border.specs.Kept.{slot}
 use Rattle.host.proofs.one.slot as slot-fn
 
 module _ {M : Type 1} (𝓤 : URA M) (H : Heap 𝓤) (A : Atoms 𝓤) (at-mem : Memory → SProp 𝓤) (run : Routine → Fun 𝓤) where

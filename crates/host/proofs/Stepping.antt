@@ -17,10 +17,10 @@ use Rattle.memory.specs.Memories.{Hold}
 use Rattle.calls.specs.Promised as table
 use Rattle.workers.proofs.CheckLaws.{worker-below}
 use Rattle.calls.proofs.Stepping.{left-unsized, left-worker, left-idle, left-stepped}
-use Rattle.numbers.specs.Kept.{worker-in, table-in, put-record, slot}
-use Rattle.numbers.specs.Packing.{packed-answer}
-use Rattle.numbers.specs.declared.kept.Kept.{Kept}
-use Rattle.numbers.specs.declared.kept.Record.{Record}
+use Rattle.border.specs.Kept.{worker-in, table-in, put-record, slot}
+use Rattle.border.specs.Packing.{packed-answer}
+use Rattle.border.specs.declared.kept.Kept.{Kept}
+use Rattle.border.specs.declared.kept.Record.{Record}
 use Rattle.host.specs.Promised.{refuses, Steps, Steps-one}
 use Rattle.host.specs.Moves.{refused, settled}
 use Rattle.host.specs.declared.one.Moved.{Moved}

@@ -14,11 +14,11 @@ use Rattle.catalogue.specs.declared.answers.Made.the-variants.{Done, Refused}
 use Rattle.catalogue.specs.declared.answers.Refusal.the-variants as refusal
 use Rattle.catalogue.specs.declared.workers.Worker.{Worker}
 use Rattle.catalogue.specs.declared.workers.Table.{Table}
-use Rattle.numbers.specs.Kept.{record-of, table-in, idle-kept}
-use Rattle.numbers.specs.Packing.{packed-made}
-use Rattle.numbers.specs.declared.kept.Kept.{Kept}
-use Rattle.numbers.specs.declared.kept.Record.{Record}
-use Rattle.numbers.proofs.Places.{worker-back}
+use Rattle.border.specs.Kept.{record-of, table-in, idle-kept}
+use Rattle.border.specs.Packing.{packed-made}
+use Rattle.border.specs.declared.kept.Kept.{Kept}
+use Rattle.border.specs.declared.kept.Record.{Record}
+use Rattle.border.proofs.Places.{worker-back}
 use Rattle.sweep.specs.Promised as swept
 use Rattle.host.specs.Promised.{Makes-table, Sweeps}
 

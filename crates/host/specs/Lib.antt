@@ -1,4 +1,4 @@
--- What the host's calls promise, over the definitions of document 01, and that it leaves no choice.
+-- What the host's calls promise, over the definitions of document 01, and that it allows one result only.
 pub mod Moves
 pub mod Promised
 pub mod Unique

@@ -1,10 +1,12 @@
--- Any two results that the promises allow coincide: the numbers told, the slices, and the lent tables, number by number.
+-- Any two results that the promises allow coincide: the numbers returned, the slices, and the lent tables, number by
+-- number.
 use Prim.Native.Nat.{ℕ}
 use mathlib.Core.List.{List}
 use mathlib.Core.Path.{_≡_, sym, _∙_}
 use lib.IntN.{ℤ}
 use Rattle.catalogue.specs.Lent.{Memory}
-use Rattle.numbers.specs.declared.kept.Kept.{Kept}
+use Rattle.catalogue.specs.declared.workers.Request.{Request}
+use Rattle.border.specs.declared.kept.Kept.{Kept}
 use Rattle.host.specs.Promised.{Steps, Takes-up, Makes-table, Makes-fresh, Lists, Runs, Sweeps}
 
 pub steps-unique : (m : Memory) (t : Kept) (w r r′ : ℕ) (s s′ : Kept) (keys keys′ : List ℤ) (words words′ : List ℕ)
@@ -12,9 +14,9 @@ pub steps-unique : (m : Memory) (t : Kept) (w r r′ : ℕ) (s s′ : Kept) (key
 steps-unique m t w r r′ s s′ keys keys′ words words′ h h′ =
     (h .0 ∙ sym (h′ .0), h .1 .0 .0 ∙ sym (h′ .1 .0 .0), h .1 .1 .0 ∙ sym (h′ .1 .1 .0), h .1 .1 .1 ∙ sym (h′ .1 .1 .1))
 
-pub takes-up-unique : (m : Memory) (t : Kept) (w code : ℕ) (k l : ℤ) (r r′ : ℕ) (s s′ : Kept)
-    → Takes-up m t w code k l r s → Takes-up m t w code k l r′ s′ → (r ≡ r′) × (s ≡ s′)
-takes-up-unique m t w code k l r r′ s s′ h h′ = (h .0 ∙ sym (h′ .0), h .1 .0 ∙ sym (h′ .1 .0))
+pub takes-up-unique : (m : Memory) (t : Kept) (w : ℕ) (q : Request) (r r′ : ℕ) (s s′ : Kept)
+    → Takes-up m t w q r s → Takes-up m t w q r′ s′ → (r ≡ r′) × (s ≡ s′)
+takes-up-unique m t w q r r′ s s′ h h′ = (h .0 ∙ sym (h′ .0), h .1 .0 ∙ sym (h′ .1 .0))
 
 pub makes-table-unique : (t : Kept) (count r r′ : ℕ) (s s′ : Kept) → Makes-table t count r s → Makes-table t count r′ s′ → (r ≡ r′) × (s ≡ s′)
 makes-table-unique t count r r′ s s′ h h′ = (h .0 ∙ sym (h′ .0), h .1 .0 ∙ sym (h′ .1 .0))

@@ -1,8 +1,8 @@
 // The call that makes lent memory a fresh catalogue.
 ghost use Rattle.catalogue.specs.Lent.{memory-of};
 ghost use Rattle.host.specs.Promised.{Makes-fresh};
-use memory::fresh::fresh;
-use numbers::packing::packed_made;
+use border::packing::packed_made;
+use clearing::fresh::fresh;
 
 #[no_mangle]
 pub extern "C" fn pallaymi_fresh(keys: &mut [i32], words: &mut [u32]) -> u64

@@ -1,8 +1,8 @@
 // The call that writes the text of a catalogue at rest.
 ghost use Rattle.catalogue.specs.Lent.{memory-of};
 ghost use Rattle.host.specs.Promised.{Lists};
+use border::packing::packed_listed;
 use listing::call::listing;
-use numbers::packing::packed_listed;
 
 #[no_mangle]
 pub extern "C" fn pallaymi_listing(keys: &[i32], words: &[u32], output: &mut [u8]) -> u64

@@ -1,28 +1,28 @@
 // A step and taking up, on the one record that they read and store back.
 ghost use mathlib.Core.Path.{_≡_};
-ghost use Rattle.catalogue.specs.Lent.{Sized, memory-of, catalogue-in};
-ghost use Rattle.numbers.specs.Kept.{slot};
+ghost use Rattle.catalogue.specs.Lent.{memory-of};
+ghost use Rattle.catalogue.specs.Workers.{asks};
+ghost use Rattle.border.specs.Kept.{slot};
 ghost use Rattle.host.specs.Promised.{Steps-one, Takes-up-one};
-ghost use Rattle.host.specs.Moves.{moved, refused, settled, start-at, start-one};
+ghost use Rattle.host.specs.Moves.{moved, refused, settled, entered};
+use border::kept::Record;
+use border::kept::record_of;
+use border::kept::worker_in;
+use border::packing::packed_answer;
+use calls::admit::admit;
 use calls::record::step_record;
+use catalogue::answers::Admission;
 use catalogue::answers::Answer;
 use catalogue::answers::Refusal;
-use catalogue::links::VertexLink;
+use catalogue::workers::Pair;
+use catalogue::workers::Request;
 use catalogue::workers::Worker;
-use looks::keys::key_refused;
-use looks::places::first_place;
 use memory::checks::sized;
-use memory::reads::vertex_link;
-use numbers::kept::Record;
-use numbers::kept::record_of;
-use numbers::kept::worker_in;
-use numbers::packing::packed_answer;
-use workers::checks::one_to;
 use workers::checks::worker_fits;
 use workers::records::bare;
 use workers::requests::busy_at;
 
-// The record as the call leaves it, and what the call tells.
+// The record after the call, and what the call returns.
 pub struct Moved {
     pub kept: Record,
     pub told: u64,
@@ -35,7 +35,7 @@ pub fn slot(worker: u32) -> usize
     (worker % 8) as usize
 }
 
-// A refusal leaves the record as it was.
+// A refusal keeps the record unchanged.
 fn refuse(r: Record, refusal: Refusal) -> Moved
     ensures { λ x. ⌜ x ≡ refused r refusal ⌝ }
 {
@@ -82,30 +82,17 @@ pub fn step_one(keys: &mut [i32], words: &mut [u32], count: u32, worker: u32, r:
     refuse(r, Refusal::Room)
 }
 
-// At the first place of the request.
-fn start_at(code: u32, k: i32, l: i32, next: u8) -> Moved
-    ensures { λ x. ⌜ x ≡ start-at code k l next ⌝ }
+// Where the request begins, or a refusal.
+fn enter(r: Record, admission: Admission) -> Moved
+    ensures { λ x. ⌜ x ≡ entered r admission ⌝ }
 {
-    let place = first_place(code, k, l, next);
-    let w = bare(place);
-    move_to(w, Answer::Going { met: 0 })
-}
-
-// By an idle worker: the code, the keys, then the head's link.
-fn start_one(keys: &[i32], words: &[u32], r: Record, code: u32, k: i32, l: i32) -> Moved
-    requires { ⌜ Sized (now keys) (now words) ⌝ }
-    ensures { λ x. ⌜ x ≡ start-one (catalogue-in (now (keys .entry)) (now (words .entry))) r code k l ⌝ }
-{
-    if one_to(6, code) {
-        if key_refused(code, k, l) {
-            return refuse(r, Refusal::Key);
+    match admission {
+        Admission::Begins { place } => {
+            let w = bare(place);
+            move_to(w, Answer::Going { met: 0 })
         }
-        let VertexLink::At { next, tag: _ } = vertex_link(words, 0) else {
-            return refuse(r, Refusal::Torn);
-        };
-        return start_at(code, k, l, next);
+        Admission::Refused { refusal } => refuse(r, refusal),
     }
-    refuse(r, Refusal::Code)
 }
 
 // The catalogue is only read.
@@ -119,16 +106,18 @@ pub fn take_up_one(
     k: i32,
     l: i32,
 ) -> Moved
-    ensures { λ x. ⌜ Takes-up-one (memory-of (now (keys .entry)) (now (words .entry))) count worker r code k l x ⌝ }
+    ensures { λ x. ⌜ Takes-up-one (memory-of (now (keys .entry)) (now (words .entry))) count worker r (asks code k l) x ⌝ }
 {
     if sized(keys, words) {
         if worker_fits(count, worker) {
             let w = worker_in(r);
             let place = w.place;
-            if busy_at(place) {
-                return refuse(r, Refusal::Busy);
-            }
-            return start_one(keys, words, r, code, k, l);
+            let q = Request {
+                code,
+                pair: Pair { k, l },
+            };
+            let admission = admit(keys, words, place, q);
+            return enter(r, admission);
         }
         return refuse(r, Refusal::Worker);
     }

@@ -1,7 +1,7 @@
 // The call that runs a whole script and writes its result.
 ghost use Rattle.catalogue.specs.Lent.{memory-of};
 ghost use Rattle.host.specs.Promised.{Runs};
-use numbers::packing::packed_ran;
+use border::packing::packed_ran;
 use run::call::run;
 
 #[no_mangle]

@@ -1,7 +1,7 @@
 // How much memory a host lends.
 ghost use mathlib.Core.Path.{_≡_};
 ghost use Rattle.catalogue.specs.Lent.{keys-size, words-size, output-size};
-ghost use Rattle.numbers.specs.Kept.{table-size};
+ghost use Rattle.border.specs.Kept.{table-size};
 use memory::KEYS_SIZE;
 use memory::WORDS_SIZE;
 

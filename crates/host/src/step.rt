@@ -3,7 +3,7 @@ ghost use Rattle.catalogue.specs.Lent.{memory-of};
 ghost use Rattle.host.specs.Promised.{Steps};
 use crate::one::slot;
 use crate::one::step_one;
-use numbers::kept::Kept;
+use border::kept::Kept;
 
 // Only the worker's record is read and stored back.
 #[no_mangle]

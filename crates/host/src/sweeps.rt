@@ -1,9 +1,9 @@
 // The call that sweeps a catalogue at rest into a second one.
 ghost use Rattle.catalogue.specs.Lent.{memory-of};
 ghost use Rattle.host.specs.Promised.{Sweeps};
-use numbers::kept::Kept;
-use numbers::packing::packed_made;
-use numbers::reading::table_of;
+use border::kept::Kept;
+use border::packing::packed_made;
+use border::reading::table_of;
 use sweep::sweep::sweep;
 
 // The whole call, on the table by value.

@@ -1,16 +1,16 @@
 // The call that makes a table of idle workers.
 ghost use mathlib.Core.Path.{_≡_};
-ghost use Rattle.numbers.specs.Kept.{idle-kept};
+ghost use Rattle.border.specs.Kept.{idle-kept};
 ghost use Rattle.host.specs.Promised.{Makes-table};
+use border::kept::Kept;
+use border::kept::record_of;
+use border::packing::packed_made;
 use catalogue::answers::Made;
 use catalogue::answers::Refusal;
-use numbers::kept::Kept;
-use numbers::kept::record_of;
-use numbers::packing::packed_made;
 use workers::checks::one_to;
 use workers::records::idle;
 
-// The table as the call leaves it, and what the call tells.
+// The table after the call, and what the call returns.
 pub struct Tabled {
     pub table: Kept,
     pub told: u64,

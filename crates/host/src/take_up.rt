@@ -1,9 +1,10 @@
 // The call by which a worker takes up a request.
 ghost use Rattle.catalogue.specs.Lent.{memory-of};
+ghost use Rattle.catalogue.specs.Workers.{asks};
 ghost use Rattle.host.specs.Promised.{Takes-up};
 use crate::one::slot;
 use crate::one::take_up_one;
-use numbers::kept::Kept;
+use border::kept::Kept;
 
 // Only the worker's record is read and stored back.
 #[no_mangle]
@@ -16,7 +17,7 @@ pub extern "C" fn pallaymi_take_up(
     k: i32,
     l: i32,
 ) -> u64
-    ensures { λ r. ⌜ Takes-up (memory-of (now (keys .entry)) (now (words .entry))) (now (table .entry)) worker code k l r (now (table .exit)) ⌝ }
+    ensures { λ r. ⌜ Takes-up (memory-of (now (keys .entry)) (now (words .entry))) (now (table .entry)) worker (asks code k l) r (now (table .exit)) ⌝ }
 {
     let at = slot(worker);
     let x = take_up_one(

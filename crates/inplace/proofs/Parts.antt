@@ -1,4 +1,5 @@
--- What both walks speak of: the machine values of a record, of an answer and of what a step gives, and what a step leaves. Definitions.
+-- Definitions for both walks: the machine values of a record, of an answer and of what a step returns,
+-- and the slices after a step.
 use Prim.Native.Nat.{ℕ}
 use mathlib.Core.List.{List}
 use lib.IntN.{ℤ}
@@ -42,6 +43,6 @@ module _ (keys : Keys) (words : Words) (w : Worker) where
   abbrev pub gave : Stepped
   gave = stepped w (decide lent w)
 
-  -- what it leaves in the slices, at their last lists
+  -- the slices after it, at their last lists
   abbrev pub Left : List ℤ → List ℕ → Type 0
   Left zk zw = Hold zk zw (commit lent (write-of (decide lent w)))

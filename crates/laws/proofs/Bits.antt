@@ -1,4 +1,5 @@
--- The bits of a number by `/ 2 ^ b % 2`: adding a power whose bit is clear sets that bit and no other, and `ones` counts them.
+-- The bits of a number by `/ 2 ^ b % 2`: adding a power whose bit is clear sets that bit and no other,
+-- and `ones` counts them.
 use Prim.Native.Nat.{ℕ, zero, suc, _+_, _*_, _-_, _/_, _%_, _^_, _<_}
 use mathlib.Core.Bool.{Bool}
 use mathlib.Core.Logic.{_⊎_, inl, inr, ⊎-elim}

@@ -1,4 +1,5 @@
--- Two numbers are one or two, and one is below the other or it is not; and a function with another value at one number, in both cases.
+-- Two numbers are one or two, and one is below the other or it is not;
+-- and a function with another value at one number, in both cases.
 use Prim.Native.Nat.{ℕ, _<_, _≤_}
 use mathlib.Core.Bool.{Bool, true, false}
 use mathlib.Core.Logic.{_⊎_, inl, inr}

@@ -1,4 +1,5 @@
--- Lists of numbers with no number twice, kept and gathered; and different numbers of a range are no more than the range has.
+-- Lists of numbers with no number twice, kept and gathered;
+-- and different numbers of a range are no more than the range has.
 use Prim.Native.Nat.{ℕ, zero, suc, _+_, _<_, _≤_}
 use mathlib.Core.Bool.{Bool, true, false}
 use mathlib.Core.List.{List, [], _∷_, _++_}
@@ -10,18 +11,12 @@ use borrow.Author.Tests.{eqb-true, eqb-false, ne-eqb}
 use Rattle.catalogue.specs.Tests.{pick, keep}
 use Rattle.catalogue.specs.Live.{gather}
 use Rattle.laws.proofs.Picks.{pick-both, clash}
-use Rattle.laws.proofs.Members.{All, all-each, all-join, all-append, all-parts, all-gather, all-keep, kept-all, keep-all}
+use Rattle.laws.proofs.Members.{All, all-each, all-join, all-append, all-gather, all-keep, kept-all, keep-all}
 
 -- no number twice
 abbrev pub Distinct : List ℕ → Type 0
 Distinct [] = Unit {0}
 Distinct (x ∷ l) = All (λ y. y ≡ x → ⊥) l × Distinct l
-
-pub distinct-parts : (front : List ℕ) (x : ℕ) (rest : List ℕ) → Distinct (front ++ x ∷ rest) → All (λ y. y ≡ x → ⊥) front × All (λ y. y ≡ x → ⊥) rest
-distinct-parts [] x rest d = (tt, d .0)
-distinct-parts (z ∷ front) x rest d =
-    let r = distinct-parts front x rest (d .1) in
-    ((λ e. all-parts (λ y. y ≡ z → ⊥) front (x ∷ rest) (d .0) .1 .0 (sym e), r .0), r .1)
 
 pub distinct-append : (a b : List ℕ) → Distinct a → Distinct b → All (λ x. All (λ y. y ≡ x → ⊥) b) a → Distinct (a ++ b)
 distinct-append [] b d e n = e

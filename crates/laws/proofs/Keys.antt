@@ -1,4 +1,4 @@
--- Keys in rising order: what a list of nodes whose keys rise tells of its nodes.
+-- Keys in rising order: what a list of nodes whose keys rise implies for its nodes.
 use Prim.Native.Nat.{ℕ}
 use mathlib.Core.Bool.{Bool, true, false}
 use mathlib.Core.List.{List, [], _∷_, map}

@@ -3,6 +3,7 @@ pub mod Rules
 pub mod Picks
 pub mod Cases
 pub mod Ways
+pub mod Admits
 pub mod Pools
 pub mod Leads
 pub mod Members

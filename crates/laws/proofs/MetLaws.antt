@@ -1,4 +1,5 @@
--- What is in the met set after a number is added, that the sum which adds it fits its word, and that the ones of its words are its count.
+-- What is in the met set after a number is added; that the sum which adds it fits its word;
+-- and that the ones of its words are its count.
 use Prim.Native.Nat.{ℕ, zero, suc, _+_, _*_, _-_, _/_, _%_, _^_, _<_}
 use mathlib.Core.Bool.{Bool, true, false}
 use mathlib.Core.List.{List}
@@ -97,7 +98,7 @@ module _ (met : List ℕ) (n : ℕ) (none : has met n ≡ false) where
             ∙ ap (λ (x : ℕ). eqb x 1) (bit-other word (n % 64) (m % 64) clear-bit (λ q. ne (omega arith)))
             ∙ ap (λ (x : ℕ). eqb (bit (getD met x 0) (m % 64)) 1) (sym h)
 
--- the set as the code leaves it
+-- the set as the code makes it
 pub sum-sets : (met : List ℕ) (n : ℕ) → set met (n / 64) (getD met (n / 64) 0 + 1 * 2 ^ (n % 64) % 2 ^ 64) ≡ with-met met n
 unfolding with-met
 sum-sets met n = rw (one-shl (n % 64) (omega arith)) refl

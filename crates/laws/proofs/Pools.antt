@@ -38,7 +38,7 @@ edge-in-pool words n next tag r e q = subst (Linked n) (sym e ∙ q) (linked wor
 pub added-in : (C : Catalogue) (e : ℕ) → is-added C e ≡ true → e < edge-pool
 added-in C e =
     edge-both (λ b. b ≡ true → e < edge-pool) (edge-link C e) false _ (λ h. clash (cc))
-    (λ next tag q h. edge-in-pool (C .elink) e next tag (edge-link C e) refl q)
+    (λ next tag q h. edge-in-pool (C .edges .link) e next tag (edge-link C e) refl q)
 
 pub live-added : (C : Catalogue) (e : ℕ) → is-live C e ≡ true → is-added C e ≡ true
 live-added C e h = both-true (is-added C e) _ h .0

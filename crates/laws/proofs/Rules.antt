@@ -1,4 +1,5 @@
--- What `search` is handed to close a `returns` against a definition that goes by tests: the value of each test, from what the branches on the way tell.
+-- What `search` is handed to close a `returns` against a definition that goes by tests:
+-- the value of each test, known from the branches on the way.
 -- Keys are signed, and reach a test or a callee through their bits: the laws here take them back.
 use mathlib.Core.Bool.{Bool, true, false, false≢true}
 use mathlib.Core.Path.{_≡_, refl, sym, _∙_, ap, subst}

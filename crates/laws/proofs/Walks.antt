@@ -1,4 +1,5 @@
--- A walk by its clauses; and a walk as a list of nodes, each of which leads to the one after it: from the walk to that, and back. Where keys rise from node to node they rise through the list.
+-- A walk by its clauses; and a walk as a list of nodes, each of which leads to the one after it:
+-- from the walk to that, and back. Where keys rise from node to node they rise through the list.
 use Prim.Native.Nat.{ℕ, zero, suc, _+_, _-_, _≤_, _<_}
 use mathlib.Core.Bool.{Bool, true, false}
 use mathlib.Core.List.{List, [], _∷_, map}

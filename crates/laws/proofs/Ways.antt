@@ -1,6 +1,7 @@
--- A way through code against a definition that goes by the same tests and reads: each test and each read on the way chooses a case, and what is left is
--- the end of the way. `search ways` follows them one by one, from the facts that a walk has: what a callee ensures of its result, and which
--- constructor the result was taken apart into.
+-- A way through code against a definition that goes by the same tests and reads:
+-- each test and each read on the way chooses a case, and what is left is the end of the way.
+-- `search ways` follows them one by one, from the facts that a walk has: what a callee ensures of its result,
+-- and which constructor the result was taken apart into.
 use Prim.Native.Nat.{ℕ}
 use mathlib.Core.Bool.{Bool, true, false}
 use mathlib.Core.Path.{_≡_, refl, sym, _∙_, ap}

@@ -1,1 +1,2 @@
-// Laws of the definitions of document 01, which the proofs of several crates rest on. There is nothing to run here; proofs/Lib.antt names the laws.
+// Laws of the definitions of document 01, which the proofs of several crates rest on.
+// There is nothing to run here; proofs/Lib.antt names the laws.

@@ -1,37 +1,38 @@
--- Taking up and a step do the same to catalogues that agree, for a table in range; so on lent memory they do what they do on its catalogue.
+-- Taking up and a step do the same to catalogues that agree, for a table in range;
+-- so on lent memory they do what they do on its catalogue.
 use Prim.Native.Nat.{ℕ}
 use mathlib.Core.Bool.{Bool, true, false}
 use mathlib.Core.Path.{_≡_, refl}
 use native.Mathlib.Omega.{arith}
-use lib.IntN.{ℤ}
 use Rattle.catalogue.specs.Tests.{pick}
 use Rattle.catalogue.specs.Numbers.{head}
-use Rattle.catalogue.specs.Catalogue.{Catalogue, vertex-link, at-vertex}
+use Rattle.catalogue.specs.Catalogue.{Catalogue}
 use Rattle.catalogue.specs.Workers.{bare, blank, worker-at, put, busy}
 use Rattle.catalogue.specs.Writes.{commit}
-use Rattle.catalogue.specs.Steps.Places.{code-known, key-refused, first-place}
 use Rattle.catalogue.specs.Steps.Decide.{decide, record-after, write-of, answer-of}
-use Rattle.catalogue.specs.Calls.{After, refuse, worker-fits, start-up, take-up, perform, step}
+use Rattle.catalogue.specs.Calls.{After, refuse, worker-fits, admit, admitted, take-up, perform, step}
 use Rattle.catalogue.specs.Lent.{view, lay, sized, after-call, lent-take-up, lent-step}
 use Rattle.catalogue.specs.declared.answers.Refusal.{Refusal}
 use Rattle.catalogue.specs.declared.answers.Refusal.the-variants as refusal
-use Rattle.catalogue.specs.declared.answers.Answer.the-variants.{Going}
-use Rattle.catalogue.specs.declared.links.VertexLink.{VertexLink}
-use Rattle.catalogue.specs.declared.links.VertexLink.the-variants as vertex
+use Rattle.catalogue.specs.declared.answers.Admission.{Admission}
+use Rattle.catalogue.specs.declared.answers.Admission.the-variants as admission
+use Rattle.catalogue.specs.declared.workers.Place.{Place}
+use Rattle.catalogue.specs.declared.workers.Request.{Request}
 use Rattle.catalogue.specs.declared.workers.Worker.{Worker}
 use Rattle.catalogue.specs.declared.workers.Table.{Table}
 use Rattle.catalogue.specs.declared.steps.Decision.{Decision}
 use Rattle.catalogue.specs.declared.steps.Decision.the-variants as decision
+use Rattle.laws.proofs.Admits.{admit-both, admit-same}
 use Rattle.laws.proofs.Leads.{vertex-next-in}
 use Rattle.memory.proofs.Laid.{length-keys, length-words}
 use Rattle.memory.proofs.Agrees.{Agree, agree-laid, lay-agree, commit-agree}
 use Rattle.lent.proofs.Agrees.{vertex-link-same}
 use Rattle.lent.proofs.Entries.{all-read, all-set}
-use Rattle.lent.proofs.Ranges.{In-range, Table-in-range, Leads-near, first-near}
+use Rattle.lent.proofs.Ranges.{In-range, Table-in-range, Place-near, Leads-near, first-near}
 use Rattle.lent.proofs.Twins.{Twin}
 use Rattle.lent.proofs.Steps.Deciding.{decide-twin, bare-in-range, after-in-range}
 
--- what two calls leave: catalogues that agree, the same table, which is in range, and the same answer
+-- after two calls: catalogues that agree, the same table, which is in range, and the same answer
 pub record Alike (a b : After) : Type 0 where
   pub agree : Agree (a .catalogue) (b .catalogue)
   pub table : a .table ≡ b .table
@@ -42,11 +43,20 @@ pick-alike : (t : Bool) {a b a′ b′ : After} → Alike a a′ → Alike b b�
 pick-alike true h g = h
 pick-alike false h g = g
 
+-- an admission to a place in range
+abbrev Admits-near : Admission → Type 0
+Admits-near (admission.Begins place) = Place-near place
+Admits-near (admission.Refused why) = Unit {0}
+
+admit-near : (C : Catalogue) (place : Place) (q : Request) → Admits-near (admit C place q)
+admit-near C place q =
+    admit-both C place q Admits-near (λ why torn. tt) (λ first h. first-near q first (vertex-next-in (C .vertices .link) head first (h .tag) (h .leads)))
+
 module _ {C D : Catalogue} (a : Agree C D) (t : Table) (r : Table-in-range t) where
   refuse-alike : (why : Refusal) → Alike (refuse C t why) (refuse D t why)
   refuse-alike why = record { agree = a; table = refl; answer = refl; range = r }
 
-  -- what is left where the decision does not refuse
+  -- what there is after a decision that does not refuse
   abbrev leaves : Catalogue → ℕ → Worker → Decision → After
   leaves E n w d = record { catalogue = commit E (write-of d); table = put t n (record-after w d); answer = answer-of d (record-after w d) }
 
@@ -85,34 +95,24 @@ module _ {C D : Catalogue} (a : Agree C D) (t : Table) (r : Table-in-range t) wh
       performed : Alike (perform C t w (worker-at t w) (decide C (worker-at t w))) (perform D t w (worker-at t w) (decide D (worker-at t w)))
       performed = rw (← decided .same) (perform-alike w (worker-at t w) at (decide C (worker-at t w)) (decided .good))
 
-  start-up-alike : (w code : ℕ) (k l : ℤ) → Alike (start-up C t w code k l) (start-up D t w code k l)
-  unfolding start-up
-  start-up-alike w code k l =
-      pick-alike (code-known code) (pick-alike (key-refused code k l) (refuse-alike refusal.Key) started) (refuse-alike refusal.Code)
-    where
-      up : Catalogue → VertexLink → After
-      up E read =
-          at-vertex read (refuse E t refusal.Torn) (λ first tag.
-          record { catalogue = E; table = put t w (bare (first-place code k l first)); answer = Going 0 })
+  admitted-alike : (w : ℕ) (d : Admission) → Admits-near d → Alike (admitted C t w d) (admitted D t w d)
+  admitted-alike w (admission.Begins place) h = record {
+    agree = a;
+    table = refl;
+    answer = refl;
+    range = all-set In-range (t .workers) w (bare place) r (bare-in-range place h);
+  }
+  admitted-alike w (admission.Refused why) h = refuse-alike why
 
-      by : (read : VertexLink) → vertex-link D head ≡ read → Alike (up C read) (up D read)
-      by (vertex.At first tag) e = record {
-        agree = a;
-        table = refl;
-        answer = refl;
-        range =
-            all-set In-range (t .workers) w (bare (first-place code k l first)) r
-            (bare-in-range (first-place code k l first) (first-near code k l first (vertex-next-in (D .vlink) head first tag e)));
-      }
-      by vertex.Torn e = refuse-alike refusal.Torn
-
-      started : Alike (up C (vertex-link C head)) (up D (vertex-link D head))
-      started = rw (vertex-link-same a head (omega arith)) (by (vertex-link D head) refl)
-
-  pub take-up-alike : (w code : ℕ) (k l : ℤ) → Alike (take-up C t w code k l) (take-up D t w code k l)
+  pub take-up-alike : (w : ℕ) (q : Request) → Alike (take-up C t w q) (take-up D t w q)
   unfolding take-up
-  take-up-alike w code k l =
-      pick-alike (worker-fits (t .count) w) (pick-alike (busy t w) (refuse-alike refusal.Busy) (start-up-alike w code k l)) (refuse-alike refusal.Worker)
+  take-up-alike w q = pick-alike (worker-fits (t .count) w) given (refuse-alike refusal.Worker)
+    where
+      place : Place
+      place = worker-at t w .place
+
+      given : Alike (admitted C t w (admit C place q)) (admitted D t w (admit D place q))
+      given = rw (admit-same C place q D (vertex-link-same a head (omega arith))) (admitted-alike w (admit D place q) (admit-near D place q))
 
 -- laid memory has the stated sizes
 pub sized-lay : (C : Catalogue) → sized (lay C) ≡ true
@@ -127,7 +127,6 @@ module _ (C : Catalogue) (t : Table) (r : Table-in-range t) where
   unfolding lent-step
   lent-step-laid w = rw (sized-lay C) (after-same (step (view (lay C)) t w) (step C t w) (step-alike (agree-laid C) t r w))
 
-  pub lent-take-up-laid : (w code : ℕ) (k l : ℤ) → lent-take-up (lay C) t w code k l ≡ after-call (take-up C t w code k l)
+  pub lent-take-up-laid : (w : ℕ) (q : Request) → lent-take-up (lay C) t w q ≡ after-call (take-up C t w q)
   unfolding lent-take-up
-  lent-take-up-laid w code k l =
-      rw (sized-lay C) (after-same (take-up (view (lay C)) t w code k l) (take-up C t w code k l) (take-up-alike (agree-laid C) t r w code k l))
+  lent-take-up-laid w q = rw (sized-lay C) (after-same (take-up (view (lay C)) t w q) (take-up C t w q) (take-up-alike (agree-laid C) t r w q))

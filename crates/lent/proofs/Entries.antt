@@ -5,7 +5,7 @@ use lib.ListN.{getD, set, replicate}
 use Rattle.laws.proofs.Members.{All}
 
 module _ {A : Type 0} (P : A → Type 0) where
-  -- behind the end, of what stands for an entry there
+  -- past the end, of what stands for an entry there
   pub all-read : (l : List A) (i : ℕ) (d : A) → All P l → P d → P (getD l i d)
   all-read [] i d h p = p
   all-read (x ∷ l) zero d h p = h .0

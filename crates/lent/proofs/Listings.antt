@@ -1,13 +1,13 @@
 -- A listing of catalogues that agree writes the same, so a listing of lent memory is that of its catalogue.
 use Prim.Native.Nat.{ℕ}
 use mathlib.Core.Bool.{true}
-use mathlib.Core.List.{List, [], _∷_, map}
+use mathlib.Core.List.{List, []}
 use mathlib.Core.Path.{_≡_, refl}
 use Rattle.catalogue.specs.Tests.{keep}
 use Rattle.catalogue.specs.Catalogue.{Catalogue, vertex-key, edge-key}
-use Rattle.catalogue.specs.Live.{edges-of, is-added, live-edges-of}
+use Rattle.catalogue.specs.Live.{edges-of, is-added, live-keys, live-pairs}
 use Rattle.catalogue.specs.Soundness.{listing}
-use Rattle.catalogue.specs.Listing.{Reply-line, added-edges, vertex-lines, edge-lines, result-text, list-into}
+use Rattle.catalogue.specs.Listing.{Reply-line, added-edges, result-text, list-into}
 use Rattle.catalogue.specs.Lent.{lay, output-fits, lent-listing}
 use Rattle.memory.proofs.Agrees.{Agree, agree-laid}
 use Rattle.lent.proofs.Agrees.{vertex-key-same, edge-key-same}
@@ -21,20 +21,17 @@ module _ {C D : Catalogue} (a : Agree C D) where
       live-gathered a (λ x. keep (is-added C) (edges-of C x)) (λ x. keep (is-added D) (edges-of D x))
       (λ x h. edges-kept a x h (is-added C) (is-added D) (λ e b. is-added-twin a e .same))
 
-  vertex-lines-same : vertex-lines C ≡ vertex-lines D
-  vertex-lines-same = live-mapped a (λ x. vertex-key C x ∷ []) (λ x. vertex-key D x ∷ []) (λ x h. rw (vertex-key-same a x h) refl)
+  keys-same : live-keys C ≡ live-keys D
+  keys-same = live-mapped a (vertex-key C) (vertex-key D) (vertex-key-same a)
 
-  edge-lines-same : edge-lines C ≡ edge-lines D
-  edge-lines-same =
-      live-gathered a
-      (λ x. map (λ e. vertex-key C x ∷ (edge-key C e ∷ [])) (live-edges-of C x))
-      (λ x. map (λ e. vertex-key D x ∷ (edge-key D e ∷ [])) (live-edges-of D x))
-      (λ x h. live-edges-mapped a x h (λ e. vertex-key C x ∷ (edge-key C e ∷ [])) (λ e. vertex-key D x ∷ (edge-key D e ∷ []))
-      (λ e b. rw (vertex-key-same a x h, edge-key-same a e b) refl))
+  pairs-same : live-pairs C ≡ live-pairs D
+  pairs-same =
+      live-edges-mapped a (λ x e. (vertex-key C x, edge-key C e)) (λ x e. (vertex-key D x, edge-key D e))
+      (λ x e h b. rw (vertex-key-same a x h, edge-key-same a e b) refl)
 
   pub text-same : (replies : List Reply-line) → result-text C replies ≡ result-text D replies
   unfolding result-text
-  text-same replies = rw (added-same, vertex-lines-same, edge-lines-same, live-vertices-same a) refl
+  text-same replies = rw (added-same, keys-same, pairs-same, live-vertices-same a) refl
 
   pub listing-same : (output : List ℕ) → list-into C output ≡ list-into D output
   unfolding list-into

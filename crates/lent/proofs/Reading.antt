@@ -27,7 +27,7 @@ module _ {C D : Catalogue} (a : Agree C D) {A : Type 0} {P : A → Type 0} (n : 
   pub vertex-read : {torn torn′ : A} {f f′ : ℕ → ℕ → A} → n < vertex-pool → Twin P torn torn′
       → ((next tag : ℕ) → next < vertex-pool → Twin P (f next tag) (f′ next tag))
       → Twin P (at-vertex (vertex-link C n) torn f) (at-vertex (vertex-link D n) torn′ f′)
-  vertex-read h t g = vertex-twin (vertex-link C n) (vertex-link D n) (vertex-link-same a n h) t (λ next tag e. g next tag (vertex-next-in (C .vlink) n next tag e))
+  vertex-read h t g = vertex-twin (vertex-link C n) (vertex-link D n) (vertex-link-same a n h) t (λ next tag e. g next tag (vertex-next-in (C .vertices .link) n next tag e))
 
   pub mark-read : {torn dead live torn′ dead′ live′ : A} → n < vertex-pool → Twin P torn torn′ → Twin P dead dead′ → Twin P live live′
       → Twin P (at-mark (vertex-link C n) torn dead live) (at-mark (vertex-link D n) torn′ dead′ live′)
@@ -36,7 +36,7 @@ module _ {C D : Catalogue} (a : Agree C D) {A : Type 0} {P : A → Type 0} (n : 
   pub first-read : {torn torn′ : A} {f f′ : ℕ → ℕ → A} → n < vertex-pool → Twin P torn torn′
       → ((next tag : ℕ) → next < edge-pool → Twin P (f next tag) (f′ next tag))
       → Twin P (at-edge (first-link C n) torn f) (at-edge (first-link D n) torn′ f′)
-  first-read h t g = edge-twin (first-link C n) (first-link D n) (first-link-same a n h) t (λ next tag e. g next tag (first-next-in (C .first) n next tag e))
+  first-read h t g = edge-twin (first-link C n) (first-link D n) (first-link-same a n h) t (λ next tag e. g next tag (first-next-in (C .vertices .first) n next tag e))
 
   -- a link that was read whole is that of an edge in its pool
   pub edge-read : {torn torn′ : A} {f f′ : ℕ → ℕ → A} → Twin P torn torn′
@@ -44,8 +44,8 @@ module _ {C D : Catalogue} (a : Agree C D) {A : Type 0} {P : A → Type 0} (n : 
       → Twin P (at-edge (edge-link C n) torn f) (at-edge (edge-link D n) torn′ f′)
   edge-read t g =
       edge-twin (edge-link C n) (edge-link D n) (edge-link-same a n) t
-      (λ next tag e. g next tag (edge-in-pool (C .elink) n next tag (edge-link C n) refl e) (edge-next-in (C .elink) n next tag e))
+      (λ next tag e. g next tag (edge-in-pool (C .edges .link) n next tag (edge-link C n) refl e) (edge-next-in (C .edges .link) n next tag e))
 
   pub target-read : {torn torn′ : A} {f f′ : ℕ → A} → n < edge-pool → Twin P torn torn′ → ((y : ℕ) → y < vertex-pool → Twin P (f y) (f′ y))
       → Twin P (at-target (edge-target C n) torn f) (at-target (edge-target D n) torn′ f′)
-  target-read h t g = target-twin (edge-target C n) (edge-target D n) (edge-target-same a n h) t (λ y e. g y (target-in (C .target) n y e))
+  target-read h t g = target-twin (edge-target C n) (edge-target D n) (edge-target-same a n h) t (λ y e. g y (target-in (C .edges .target) n y e))

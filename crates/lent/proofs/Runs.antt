@@ -10,7 +10,7 @@ use Rattle.catalogue.specs.Calls.{After, count-fits, take-up, step}
 use Rattle.catalogue.specs.Soundness.{sound, sweep}
 use Rattle.catalogue.specs.Sweep.{After-sweep, any-busy, swept, refuse-sweep, sweep-into}
 use Rattle.catalogue.specs.Lent.{Memory, Lent-call, view, lay, sized, after-call, after-sweep, lent-fresh, lent-take-up, lent-step, lent-sweep}
-use Rattle.catalogue.specs.Runs.{Choice, takes, steps, sweeps, Moment, start, Chosen, chosen-call, chosen-sweep, choose, telling, after}
+use Rattle.catalogue.specs.Choosing.{Choice, takes, steps, sweeps, Moment, start, Chosen, chosen-call, chosen-sweep, choose, telling, after}
 use Rattle.catalogue.specs.declared.answers.Refusal.the-variants as refusal
 use Rattle.catalogue.specs.declared.answers.Made.{Made}
 use Rattle.catalogue.specs.declared.answers.Made.the-variants.{Done, Refused}
@@ -98,10 +98,10 @@ module _ (h : Lent-moment) (m : Moment) (k : Held h m) where
       }
 
   choice-kept : (c : Choice) → Kept (lent-choose h c) (choose m c)
-  choice-kept (takes w code x y) =
-      called-kept (lent-take-up (h .memory) (h .table) w code x y) (take-up (m .catalogue) (m .table) w code x y)
-      (rw (k .holds .memory, k .holds .table) (lent-take-up-laid (m .catalogue) (m .table) (k .range) w code x y))
-      (take-up-alike (agree-laid (m .catalogue)) (m .table) (k .range) w code x y .range)
+  choice-kept (takes w q) =
+      called-kept (lent-take-up (h .memory) (h .table) w q) (take-up (m .catalogue) (m .table) w q)
+      (rw (k .holds .memory, k .holds .table) (lent-take-up-laid (m .catalogue) (m .table) (k .range) w q))
+      (take-up-alike (agree-laid (m .catalogue)) (m .table) (k .range) w q .range)
   choice-kept (steps w) =
       called-kept (lent-step (h .memory) (h .table) w) (step (m .catalogue) (m .table) w)
       (rw (k .holds .memory, k .holds .table) (lent-step-laid (m .catalogue) (m .table) (k .range) w))

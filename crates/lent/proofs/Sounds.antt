@@ -7,7 +7,7 @@ use lib.Signed.{ltZ}
 use Rattle.catalogue.specs.Tests.{eqZ, every}
 use Rattle.catalogue.specs.Numbers.{head}
 use Rattle.catalogue.specs.Catalogue.{Catalogue, vertex-key, edge-key}
-use Rattle.catalogue.specs.Live.{vertices, edges-of, live-vertices, live-edges-of}
+use Rattle.catalogue.specs.Live.{vertices, edges-of, live-vertices}
 use Rattle.catalogue.specs.Soundness.{Asks, tag-fits, vertex-sound, target-sound, edge-sound, edges-sound, sound}
 use Rattle.laws.proofs.Members.{all-each, all-any}
 use Rattle.lent.proofs.Twins.{twin, Same, pick-twin}
@@ -16,7 +16,7 @@ use Rattle.lent.proofs.Agrees.{vertex-key-same, edge-key-same}
 use Rattle.lent.proofs.Reading.{vertex-read, mark-read, first-read, edge-read, target-read}
 use Rattle.lent.proofs.Ranges.{Near}
 use Rattle.lent.proofs.Lists.{every-same}
-use Rattle.lent.proofs.Lives.{In-pool, vertices-near, live-near, unmarked-twin, vertices-same, live-vertices-same, edges-of-same, live-edges-same, live-gathered}
+use Rattle.lent.proofs.Lives.{In-pool, vertices-near, live-near, unmarked-twin, vertices-same, live-vertices-same, edges-of-same, live-edges-same}
 
 module _ {C D : Catalogue} (a : Agree C D) where
   vertex-sound-twin : (x : ℕ) → Near x → Same (vertex-sound C x) (vertex-sound D x)
@@ -46,7 +46,7 @@ module _ {C D : Catalogue} (a : Agree C D) where
 
     pub sound-same : sound asks C ≡ sound asks D
     unfolding sound
-    sound-same = rw (unmarked-twin a head (omega arith) .same, vertices-sound, lists-sound, live-gathered a (live-edges-of C) (live-edges-of D) (live-edges-same a)) refl
+    sound-same = rw (unmarked-twin a head (omega arith) .same, vertices-sound, lists-sound, live-edges-same a) refl
       where
         vertices-sound : every (vertex-sound C) (head ∷ vertices C) ≡ every (vertex-sound D) (head ∷ vertices D)
         vertices-sound =

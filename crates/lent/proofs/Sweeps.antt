@@ -1,17 +1,15 @@
 -- A sweep of catalogues that agree writes the same, so a sweep of lent memory is that of its catalogue.
 use Prim.Native.Nat.{ℕ}
 use mathlib.Core.Bool.{true}
-use mathlib.Core.List.{map}
-use mathlib.Core.Path.{_≡_, refl, ap}
+use mathlib.Core.Path.{_≡_, refl, ap, ap₂}
 use Rattle.catalogue.specs.Catalogue.{Catalogue, vertex-key, at-target}
-use Rattle.catalogue.specs.Live.{live-edges-of}
 use Rattle.catalogue.specs.Soundness.{sweep}
-use Rattle.catalogue.specs.Sweep.{position, renumbered, swept-edge, swept-edges, swept, sweep-into}
+use Rattle.catalogue.specs.Sweep.{position, renumbered, swept-edge, held, swept, sweep-into}
 use Rattle.catalogue.specs.Lent.{Memory, view, lay, sized, after-sweep, lent-sweep}
 use Rattle.catalogue.specs.declared.workers.Table.{Table}
 use Rattle.memory.proofs.Agrees.{Agree, agree-laid}
 use Rattle.lent.proofs.Agrees.{vertex-key-same, edge-key-same, edge-target-same}
-use Rattle.lent.proofs.Lives.{In-pool, live-vertices-same, live-edges-mapped, live-mapped, live-gathered}
+use Rattle.lent.proofs.Lives.{In-pool, live-vertices-same, live-edges-mapped, live-mapped}
 use Rattle.lent.proofs.Sounds.{sound-same}
 use Rattle.lent.proofs.Calls.{sized-lay}
 
@@ -26,14 +24,8 @@ module _ {C D : Catalogue} (a : Agree C D) where
       numbers : renumbered C ≡ renumbered D
       numbers = λ i y. position y (live-vertices-same a i) 2
 
-  edges-same : swept-edges C ≡ swept-edges D
-  edges-same =
-      live-gathered a (λ x. map (swept-edge C x) (live-edges-of C x)) (λ x. map (swept-edge D x) (live-edges-of D x))
-      (λ x h. live-edges-mapped a x h (swept-edge C x) (swept-edge D x) (swept-edge-same x))
-
   pub swept-same : swept C ≡ swept D
-  unfolding swept
-  swept-same = rw (live-mapped a (vertex-key C) (vertex-key D) (vertex-key-same a), edges-same, live-vertices-same a) refl
+  swept-same = ap₂ held (live-mapped a (vertex-key C) (vertex-key D) (vertex-key-same a)) (live-edges-mapped a (swept-edge C) (swept-edge D) (λ x e h b. swept-edge-same x e b))
 
   pub sweep-same : (E : Catalogue) (t : Table) → sweep-into C E t ≡ sweep-into D E t
   unfolding sweep-into

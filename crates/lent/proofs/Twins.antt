@@ -1,4 +1,5 @@
--- Two definitions that go by the same tests and reads give the same, and something of which a thing holds, where that is so in every case.
+-- Two definitions that go by the same tests and reads give the same, of which P holds,
+-- where that is so in every case.
 use Prim.Native.Nat.{ℕ}
 use mathlib.Core.Bool.{Bool, true, false}
 use mathlib.Core.Path.{_≡_, refl, subst}

@@ -1,7 +1,7 @@
 -- A count of what a walk keeps, by the cases of the recursion.
 use Prim.Native.Nat.{ℕ, _+_, _*_, _-_, _≤_}
 use mathlib.Core.Bool.{Bool, true, false}
-use mathlib.Core.List.{List, [], _∷_, _++_}
+use mathlib.Core.List.{List, [], _∷_}
 use mathlib.Core.Path.{_≡_, sym, ap, _∙_}
 use native.Mathlib.Omega.{arith}
 use mir.Syntax.{w16, w64}
@@ -12,7 +12,7 @@ use Rattle.catalogue.specs.Live.{gather}
 use Rattle.laws.proofs.Gathers.{gather-none, gather-first}
 use Rattle.survey.proofs.WalkLaws.{falls}
 use Rattle.listing.specs.Walks.{kept-from}
-use Rattle.listing.proofs.Kept.{none-left, at-end, going-on, kept-short}
+use Rattle.listing.proofs.Kept.{none-left, at-end, going-on, gather-on, gather-off, kept-short}
 
 -- a walk from a node that was read
 pub same-walk : (next : ℕ → ℕ) (end : ℕ) (test : ℕ → Bool) (fuel first x : ℕ) → first ≡ x → kept-from next end test fuel first ≡ kept-from next end test fuel x
@@ -53,14 +53,11 @@ module _ (next : ℕ → ℕ) (end : ℕ) (test : ℕ → Bool) (own : ℕ → L
   module _ (y rest : ℕ) (r : Bool) (some : fuel ≡ 0 → ⊥) (e : x ≡ end → ⊥) (q : r ≡ test x) (on : y ≡ next x)
       (counted : rest ≡ length (gather own (kept-from next end test (fuel - 1) y))) where
     pub owned-left : r ≡ false → rest ≡ length (gather own all)
-    owned-left h = counted ∙ sym (ap (λ k. length (gather own k)) (going-on next end test fuel x y false r some e q h on))
+    owned-left h = counted ∙ sym (ap length (gather-off next end test own fuel x y r some e q on h))
 
     pub owned-kept : (here : ℕ) (these : List ℕ) → r ≡ true → here ≡ length these → these ≡ own x → here + rest ≡ length (gather own all)
     owned-kept here these h c e′ =
-        let others : List ℕ = gather own (kept-from next end test (fuel - 1) y) in
-        let whole : gather own all ≡ own x ++ others =
-        ap (gather own) (going-on next end test fuel x y true r some e q h on) ∙ gather-first own x (kept-from next end test (fuel - 1) y) in
-        omega (arith, c, counted, ap length e′, ap length whole, length-append (own x) others)
+        omega (arith, c, counted, ap length e′, ap length (gather-on next end test own fuel x y r some e q on h), length-append (own x) (gather own (kept-from next end test (fuel - 1) y)))
 
 pub gather-short : (own : ℕ → List ℕ) → ((n : ℕ) → length (own n) ≤ 2048) → (l : List ℕ) → length (gather own l) ≤ 2048 * length l
 gather-short own short [] = rw (gather-none own) (omega arith)
@@ -77,4 +74,5 @@ owned-fits next end test own fuel y rest here next′ end′ test′ first f cou
       fits = omega (arith, f .fits, c, counted, kept-short next′ end′ test′ 2048 first, kept-short next end test (fuel - 1) y, gather-short own short many);
     }
 
-pub ruleset owned-cases = (owned-none, owned-end, owned-left, owned-kept, owned-fits, kept-short, same-walk, falls, needs)
+-- both counts
+pub ruleset contents-counts = (owned-none, owned-end, owned-left, owned-kept, owned-fits, kept-short, same-walk, count-cases)

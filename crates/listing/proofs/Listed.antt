@@ -1,4 +1,5 @@
--- The lines of what a walk keeps, by the cases of the recursion: a node's line is put first, and the lines of the others go on behind it.
+-- The lines of what a walk keeps, by the cases of the recursion.
+-- A node's line is put first, and the lines of the others follow it.
 use Prim.Native.Nat.{ℕ, _+_, _*_, _-_, _≤_}
 use mathlib.Core.Bool.{Bool, true, false}
 use mathlib.Core.List.{List, [], _∷_, _++_}
@@ -16,10 +17,10 @@ use Rattle.text.specs.Puts.{put-at}
 use Rattle.text.proofs.Runs.{put-then, end-then}
 use Rattle.text.proofs.LineLaws.{length-line}
 use Rattle.listing.specs.Walks.{kept-from, vertex-line, edge-line}
-use Rattle.laws.proofs.Gathers.{gather-none, gather-first}
+use Rattle.laws.proofs.Gathers.{gather-none}
 use Rattle.survey.proofs.Lives.{live-in-pool}
 use Rattle.survey.proofs.WalkLaws.{falls}
-use Rattle.listing.proofs.Kept.{none-left, at-end, going-on}
+use Rattle.listing.proofs.Kept.{none-left, at-end, going-on, gather-on, gather-off}
 use Rattle.listing.proofs.Counts.{same-walk}
 
 -- a number as it is passed on
@@ -58,7 +59,7 @@ module _ (next : ℕ → ℕ) (end : ℕ) (test : ℕ → Bool) (bytes : ℕ →
   -- one more node; `others` gives the lines from what is passed on
   module _ (y : ℕ) (r : Bool) (others : ℕ → List ℕ) (same : others ≡ bytes) (some : fuel ≡ 0 → ⊥) (e : x ≡ end → ⊥) (q : r ≡ test x) (on : y ≡ next x) where
     left-text : r ≡ false → gather others (kept (fuel - 1) y) ≡ gather bytes (kept fuel x)
-    left-text h = ap (λ f. gather f (kept (fuel - 1) y)) same ∙ sym (ap (gather bytes) (going-on next end test fuel x y false r some e q h on))
+    left-text h = ap (λ f. gather f (kept (fuel - 1) y)) same ∙ sym (gather-off next end test bytes fuel x y r some e q on h)
 
     pub left-put : (l k : List ℕ) → r ≡ false → k ≡ put-at l at (gather others (kept (fuel - 1) y)) → k ≡ put-at l at (gather bytes (kept fuel x))
     left-put l k h second = second ∙ ap (put-at l at) (left-text h)
@@ -70,7 +71,7 @@ module _ (next : ℕ → ℕ) (end : ℕ) (test : ℕ → Bool) (bytes : ℕ →
       kept-text : run ++ gather others (kept (fuel - 1) y) ≡ gather bytes (kept fuel x)
       kept-text =
           ap (λ f. run ++ gather f (kept (fuel - 1) y)) same ∙ ap (λ b. b ++ gather bytes (kept (fuel - 1) y)) here
-          ∙ sym (ap (gather bytes) (going-on next end test fuel x y true r some e q h on) ∙ gather-first bytes x (kept (fuel - 1) y))
+          ∙ sym (gather-on next end test bytes fuel x y r some e q on h)
 
       pub kept-put : (l m k : List ℕ) (room : ℕ) → m ≡ put-at l at run → k ≡ put-at m mid (gather others (kept (fuel - 1) y)) → length m ≡ length l
           → length k ≡ length m → at + room ≤ length l → k ≡ put-at l at (gather bytes (kept fuel x))
@@ -151,7 +152,7 @@ module _ (next : ℕ → ℕ) (end : ℕ) (test : ℕ → Bool) (fuel x y at : �
   -- the same where a node stands for the edges of a vertex
   module _ (edges : ℕ → List ℕ) where
     none : r ≡ false → length (gather edges all) ≡ length (gather edges rest)
-    none h = ap (λ k. length (gather edges k)) (going-on next end test fuel x y false r some e q h on)
+    none h = ap length (gather-off next end test edges fuel x y r some e q on h)
 
     pub edges-left : (l : List ℕ) → at + 24 * length (gather edges all) ≤ length l → r ≡ false → at + 24 * length (gather edges rest) ≤ length l
     edges-left l room h = omega (arith, none h)
@@ -162,8 +163,7 @@ module _ (next : ℕ → ℕ) (end : ℕ) (test : ℕ → Bool) (fuel x y at : �
     module _ (here : List ℕ) (h : r ≡ true) (these : here ≡ edges x) where
       both : length (gather edges all) ≡ length here + length (gather edges rest)
       both =
-          ap (λ k. length (gather edges k)) (going-on next end test fuel x y true r some e q h on) ∙ ap length (gather-first edges x rest)
-          ∙ length-append (edges x) (gather edges rest) ∙ ap (λ k. length k + length (gather edges rest)) (sym these)
+          ap length (gather-on next end test edges fuel x y r some e q on h) ∙ length-append (edges x) (gather edges rest) ∙ ap (λ k. length k + length (gather edges rest)) (sym these)
 
       pub edges-within : (mid last : ℕ) → mid ≤ at + 24 * length here → last ≤ mid + 24 * length (gather edges rest) → last ≤ at + 24 * length (gather edges all)
       edges-within mid last first second = omega (arith, both)

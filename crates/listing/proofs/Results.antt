@@ -1,4 +1,5 @@
--- The contents line and the body behind it are the text of a listing, and what the check of soundness tells is room for both.
+-- The contents line and the body after it are the text of a listing.
+-- Where the check of soundness passes, there is room for both.
 use Prim.Native.Nat.{ℕ, _+_, _*_, _≤_, _<_}
 use mathlib.Core.Bool.{Bool, true, false}
 use mathlib.Core.List.{List, [], _∷_, _++_, map}
@@ -16,13 +17,13 @@ use Rattle.catalogue.specs.Numbers.{head, tail, edge-tail, vertex-pool, edge-po
 use Rattle.catalogue.specs.Catalogue.{Catalogue}
 use Rattle.catalogue.specs.Lent.{Memory, view, sized, output-fits, output-size, catalogue-in, lent-listing}
 use Rattle.catalogue.specs.Listing.{Reply-line, reply-numbers, contents, added-edges, vertex-lines, edge-lines, result-text, written, list-into}
-use Rattle.catalogue.specs.Live.{gather, next-vertex, first-edge, next-edge, unmarked, is-added, edges-of, live-vertices, live-edges-of}
+use Rattle.catalogue.specs.Live.{next-vertex, first-edge, next-edge, unmarked, is-added, edges-of, live-vertices, live-edges}
 use Rattle.catalogue.specs.Soundness.{Asks, listing, sound}
 use Rattle.catalogue.specs.Text.{line, lines}
 use Rattle.catalogue.specs.declared.answers.Refusal.the-variants as refusal
 use Rattle.catalogue.specs.declared.listing.Listed.{Listed}
 use Rattle.catalogue.specs.declared.listing.Listed.the-variants.{Written, Refused}
-use Rattle.resting.specs.Sound.{edges-few}
+use Rattle.resting.proofs.Sound.{edges-few}
 use Rattle.survey.specs.Walks.{linked}
 use Rattle.text.specs.Puts.{put-at}
 use Rattle.text.proofs.Runs.{put-then, end-then}
@@ -104,9 +105,9 @@ module _ (keys : List ℤ) (words : List ℕ) where
   rest = lines (vertex-lines C ++ edge-lines C)
 
   abbrev live : ℕ
-  live = length (gather (live-edges-of (linked words)) (live-vertices (linked words)))
+  live = length (live-edges (linked words))
 
-  -- the room, whoever asks whether all is sound
+  -- the room, whichever call asks whether all is sound
   module _ (l : List ℕ) (asked : Asks) (r : Bool) (e : r ≡ sound asked C) (q : r ≡ true) where
     limit : live ≤ 2047
     limit = edges-few asked C (sym e ∙ q)

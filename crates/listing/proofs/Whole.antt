@@ -1,6 +1,6 @@
 -- A walk from the head with the fuel of the whole pool gives the lines and the counts of a listing.
 use Prim.Native.Nat.{ℕ, _+_, _*_, _≤_}
-use mathlib.Core.List.{List, [], _∷_, _++_, map, append-assoc}
+use mathlib.Core.List.{List, [], _∷_, _++_, map, map-map, append-assoc}
 use mathlib.Core.Path.{_≡_, refl, sym, ap, _∙_}
 use native.Mathlib.Omega.{arith}
 use lib.IntN.{ℤ}
@@ -8,12 +8,13 @@ use lib.ListN.{length, length-append}
 use borrow.Author.Needs.{needs}
 use Rattle.catalogue.specs.Numbers.{head, vertex-pool}
 use Rattle.catalogue.specs.Catalogue.{Catalogue, vertex-key, edge-key}
-use Rattle.catalogue.specs.Live.{gather, next-vertex, live-vertices, live-edges-of}
+use Rattle.catalogue.specs.Live.{gather, next-vertex, live-vertices, live-edges-of, live-edges}
 use Rattle.catalogue.specs.Listing.{vertex-lines, edge-lines, added-edges}
 use Rattle.catalogue.specs.Text.{lines, line}
 use Rattle.catalogue.specs.Lent.{catalogue-in}
 use Rattle.text.specs.Puts.{put-at}
 use Rattle.text.proofs.Runs.{put-then, end-then}
+use Rattle.laws.proofs.Gathers.{live-many, live-made}
 use Rattle.survey.specs.Walks.{linked}
 use Rattle.listing.specs.Walks.{kept-from, vertex-line, edge-line, unmarked-from, vertex-text, edges-text, live-of, added-of}
 use Rattle.listing.proofs.Listed.{had-room}
@@ -46,13 +47,13 @@ module _ (C : Catalogue) where
   unfolding kept-from
   whole-added = refl
 
-  pub whole-live : gather (live-of C) (unmarked-from C vertex-pool first) ≡ gather (live-edges-of C) (live-vertices C)
+  pub whole-live : length (gather (live-of C) (unmarked-from C vertex-pool first)) ≡ length (live-edges C)
   unfolding kept-from
-  whole-live = refl
+  whole-live = sym (live-many (live-edges-of C) (live-vertices C))
 
   pub whole-vertex-text : vertex-text C vertex-pool first ≡ lines (vertex-lines C)
   unfolding kept-from vertex-line
-  whole-vertex-text = lines-map (λ x. vertex-key C x ∷ []) (live-vertices C)
+  whole-vertex-text = lines-map (λ x. vertex-key C x ∷ []) (live-vertices C) ∙ ap lines (sym (map-map (λ k. k ∷ []) (vertex-key C) (live-vertices C)))
 
   pub whole-edges-text : edges-text C vertex-pool first ≡ lines (edge-lines C)
   unfolding kept-from edge-line
@@ -60,6 +61,7 @@ module _ (C : Catalogue) where
       lines-gather _ (λ x. map (λ e. vertex-key C x ∷ edge-key C e ∷ []) (live-edges-of C x))
       (λ x. lines-map (λ e. vertex-key C x ∷ edge-key C e ∷ []) (live-edges-of C x))
       (live-vertices C)
+      ∙ ap lines (sym (map-map (λ p. p .0 ∷ p .1 ∷ []) _ (live-edges C) ∙ live-made (λ x e. vertex-key C x ∷ edge-key C e ∷ []) (live-edges-of C) (live-vertices C)))
 
 -- the calls of a listing; the first node is the one that the head leads to
 module _ (words : List ℕ) (n : ℕ) (from : n ≡ next-vertex (linked words) head) where
@@ -70,16 +72,16 @@ module _ (words : List ℕ) (n : ℕ) (from : n ≡ next-vertex (linked words) h
   added-counted r e =
       e ∙ ap (λ m. length (gather (added-of (linked words)) (unmarked-from (linked words) vertex-pool m))) from ∙ ap length (whole-added (linked words))
 
-  live-all : length (gather (live-of (linked words)) (unmarked-from (linked words) vertex-pool n)) ≡ length (gather (live-edges-of (linked words)) (live-vertices (linked words)))
+  live-all : length (gather (live-of (linked words)) (unmarked-from (linked words) vertex-pool n)) ≡ length (live-edges (linked words))
   live-all =
-      ap (λ k. length (gather (live-of (linked words)) (unmarked-from (linked words) vertex-pool k))) from ∙ ap length (whole-live (linked words))
+      ap (λ k. length (gather (live-of (linked words)) (unmarked-from (linked words) vertex-pool k))) from ∙ whole-live (linked words)
 
-  pub edges-room : (at mid : ℕ) (l m : List ℕ) → at + 3072 + 24 * length (gather (live-edges-of (linked words)) (live-vertices (linked words))) ≤ length l
+  pub edges-room : (at mid : ℕ) (l m : List ℕ) → at + 3072 + 24 * length (live-edges (linked words)) ≤ length l
       → mid ≤ at + 12 * vertex-pool → length m ≡ length l → mid + 24 * length (gather (live-of (linked words)) (unmarked-from (linked words) vertex-pool n)) ≤ length m
   edges-room at mid l m room within long = omega (arith, live-all)
 
   pub body-within : (at mid last : ℕ) → mid ≤ at + 12 * vertex-pool → last ≤ mid + 24 * length (gather (live-of (linked words)) (unmarked-from (linked words) vertex-pool n))
-      → last ≤ at + 3072 + 24 * length (gather (live-edges-of (linked words)) (live-vertices (linked words)))
+      → last ≤ at + 3072 + 24 * length (live-edges (linked words))
   body-within at mid last first second = omega (arith, live-all)
 
   module _ (keys : List ℤ) (at mid : ℕ) (began : mid ≡ at + length (vertex-text (catalogue-in keys words) vertex-pool n)) where

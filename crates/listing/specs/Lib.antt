@@ -1,3 +1,3 @@
--- What the contracts of the walks cite beside the definitions of the live graph, and what the contract of the call says.
+-- What the contracts of the walks cite beside the definitions of the live graph, and what the call's contract says.
 pub mod Promised
 pub mod Walks

@@ -1,11 +1,12 @@
--- What a listing promises of its answer and of the lent output, for any memory and output; and that any two results which the promise allows coincide.
+-- What a listing promises of its answer and of the lent output, for any memory and output.
+-- Any two results which the promise allows coincide.
 use Prim.Native.Nat.{ℕ}
 use mathlib.Core.List.{List}
 use mathlib.Core.Path.{_≡_, sym, _∙_}
 use Rattle.catalogue.specs.Lent.{Memory, lent-listing}
 use Rattle.catalogue.specs.declared.listing.Listed.{Listed}
 
--- the answer, and the output as the call leaves it; the memory is only read
+-- the answer, and the output after the call; the memory is only read
 abbrev pub Lists : Memory → List ℕ → Listed → List ℕ → Type 0
 Lists m output r output′ = (r ≡ lent-listing m output .answer) × (output′ ≡ lent-listing m output .output)
 

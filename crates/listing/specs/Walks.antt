@@ -1,4 +1,4 @@
--- The nodes of a walk that pass a test, from any node on and with any fuel, and the lines that they are listed by.
+-- The nodes of a walk that pass a test, from any node on and with any fuel, and the lines that list them.
 use Prim.Native.Nat.{ℕ}
 use mathlib.Core.Bool.{Bool}
 use mathlib.Core.List.{List, [], _∷_}
@@ -36,7 +36,7 @@ vertex-line keys x = line (keys x ∷ [])
 unfoldable pub edge-line : (ℕ → ℤ) → ℤ → ℕ → List ℕ
 edge-line keys source e = line (source ∷ keys e ∷ [])
 
--- the lines of the vertices of a walk, of the edges of one source in a walk, and of all edges of the vertices of a walk
+-- the lines of a walk's vertices, of one source's edges in a walk, and of all edges of a walk's vertices
 abbrev pub vertex-text : Catalogue → ℕ → ℕ → List ℕ
 vertex-text C fuel x = gather (vertex-line (vertex-key C)) (unmarked-from C fuel x)
 

@@ -10,8 +10,7 @@ ghost use Rattle.catalogue.specs.Text.{line};
 ghost use Rattle.survey.specs.Walks.{linked};
 ghost use Rattle.text.specs.Puts.{put-at};
 ghost use Rattle.catalogue.specs.Lent.{words-size};
-use crate::body::added_edges;
-use crate::body::live_vertices;
+use crate::body::counts;
 use text::lines::put_three;
 
 pub fn put_contents(words: &[u32], output: &mut [u8], at: usize, replies: u32) -> usize
@@ -21,7 +20,8 @@ pub fn put_contents(words: &[u32], output: &mut [u8], at: usize, replies: u32) -
     ensures { λ r. ⌜ r ≡ at + length (line (pos replies ∷ (pos (length (live-vertices (linked (now (words .entry))))) ∷ (pos (length (added-edges (linked (now (words .entry))))) ∷ [])))) ⌝ }
     ensures { λ r. ⌜ r ≤ at + 36 ⌝ }
 {
-    let vertices = live_vertices(words);
-    let edges = added_edges(words);
-    put_three(output, at, replies, vertices as u32, edges as u32)
+    let counted = counts(words);
+    let vertices = counted.vertices as u32;
+    let edges = counted.edges as u32;
+    put_three(output, at, replies, vertices, edges)
 }

@@ -1,5 +1,6 @@
-// Walks by recursion, as they are defined: the fuel falls by one at each node. What is put in a call is no longer than its last clause says, from which
-// a caller has the room that is left without a look at the keys.
+// Walks by recursion, as they are defined: the fuel falls by one at each node.
+// What is put in a call is no longer than its last clause says.
+// From this a caller has the room that is left without a look at the keys.
 ghost use mathlib.Core.Path.{_≡_};
 ghost use Prim.Native.Nat.{_+_, _*_, _≤_};
 ghost use lib.ListN.{length};
@@ -19,22 +20,10 @@ use survey::tests::unmarked;
 use text::lines::put_one;
 use text::lines::put_pair;
 
-pub fn count_live_vertices(words: &[u32], x: u8, fuel: u16) -> usize
-    requires { ⌜ length (now words) ≡ words-size ⌝ }
-    ensures { λ r. ⌜ r ≡ length (unmarked-from (linked (now (words .entry))) fuel x) ⌝ }
-{
-    if fuel == 0 {
-        return 0;
-    }
-    if x == 1 {
-        return 0;
-    }
-    let next = next_vertex(words, x);
-    let rest = count_live_vertices(words, next, fuel - 1);
-    if unmarked(words, x) {
-        return rest + 1;
-    }
-    rest
+// What the contents line counts: live vertices, and the ADDED edges in their lists.
+pub struct Counted {
+    pub vertices: usize,
+    pub edges: usize,
 }
 
 fn count_added(words: &[u32], e: u16, fuel: u16) -> usize
@@ -55,22 +44,31 @@ fn count_added(words: &[u32], e: u16, fuel: u16) -> usize
     rest
 }
 
-pub fn count_added_edges(words: &[u32], x: u8, fuel: u16) -> usize
+pub fn count_contents(words: &[u32], x: u8, fuel: u16) -> Counted
     requires { ⌜ length (now words) ≡ words-size ⌝ }
-    ensures { λ r. ⌜ r ≡ length (gather (added-of (linked (now (words .entry)))) (unmarked-from (linked (now (words .entry))) fuel x)) ⌝ }
+    ensures { λ r. ⌜ r .vertices ≡ length (unmarked-from (linked (now (words .entry))) fuel x) ⌝ }
+    ensures { λ r. ⌜ r .edges ≡ length (gather (added-of (linked (now (words .entry)))) (unmarked-from (linked (now (words .entry))) fuel x)) ⌝ }
 {
     if fuel == 0 {
-        return 0;
+        return Counted {
+            vertices: 0,
+            edges: 0,
+        };
     }
     if x == 1 {
-        return 0;
+        return Counted {
+            vertices: 0,
+            edges: 0,
+        };
     }
     let next = next_vertex(words, x);
-    let rest = count_added_edges(words, next, fuel - 1);
+    let rest = count_contents(words, next, fuel - 1);
     if unmarked(words, x) {
         let first = first_edge(words, x);
         let here = count_added(words, first, 2048);
-        return here + rest;
+        let vertices = rest.vertices + 1;
+        let edges = here + rest.edges;
+        return Counted { vertices, edges };
     }
     rest
 }

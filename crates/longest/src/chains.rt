@@ -1,9 +1,9 @@
-// All edges but one, between the vertices from the second on, so that every one of these can be reached from the second.
+// All edges but one, between the vertices from the second on, so that each can be reached from the second.
 ghost use Prim.Native.Nat.{_≤_};
 use asking::perform::perform;
 use asking::vertices::key;
 
-// From each vertex but the first, up to an end, to the one that stands so far behind it.
+// From each vertex but the first, up to an end, to the one that stands so far after it.
 fn add_chain(keys: &mut [i32], words: &mut [u32], apart: u8, end: u16)
     requires { ⌜ end ≤ 254 ⌝ }
 {

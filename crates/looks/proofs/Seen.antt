@@ -1,17 +1,16 @@
 -- What is known by the constructor that the code took it apart into; and what a decision is made of.
 use Prim.Native.Nat.{ℕ}
 use mathlib.Core.Bool.{Bool, false}
-use mathlib.Core.Path.{_≡_, _∙_, ap, ap₂, sym, subst}
+use mathlib.Core.Path.{_≡_, refl, _∙_, ap, ap₂, sym, subst}
 use lib.IntN.{ℤ}
 use Rattle.catalogue.specs.declared.workers.Place.{Place}
 use Rattle.catalogue.specs.declared.writes.Write.{Write}
 use Rattle.catalogue.specs.declared.steps.Decision.{Decision}
-use Rattle.laws.proofs.Ways.{arg, ways}
+use Rattle.laws.proofs.Ways.{arg, ways, on-true, on-false, vertex-at, vertex-torn}
 use lib.Dec.{eqb}
 use Rattle.catalogue.specs.Numbers.{reserved}
 use Rattle.catalogue.specs.declared.steps.Decision.the-variants.{Going, Reply}
 use Rattle.catalogue.specs.declared.writes.Write.the-variants.{Nothing}
-use Rattle.looks.proofs.Args.{edge-place-arg}
 
 -- a value l that the code knows as r, and r as the constructor s
 pub by : {A B : Type 0} (f : A → B) (l r s : A) (x : B) → r ≡ l → r ≡ s → x ≡ f s → x ≡ f l
@@ -41,6 +40,9 @@ reserved-arg k k′ r = arg reserved r k k′
 
 -- ---- what each file's ways need
 
-pub ruleset place-ways = (ways, edge-place-arg, eqb-arm)
+pub ruleset place-ways = (ways, eqb-arm)
 
 pub ruleset key-ways = (ways, reserved-is, reserved-arg)
+
+-- tests and one vertex link, without the laws for keys: so a search that fails has tried every way
+pub ruleset link-ways = (refl, on-true, on-false, vertex-at, vertex-torn)

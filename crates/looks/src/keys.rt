@@ -2,6 +2,7 @@
 ghost use mathlib.Core.Path.{_≡_};
 ghost use Rattle.catalogue.specs.Numbers.{reserved};
 ghost use Rattle.catalogue.specs.Steps.Places.{key-refused};
+use catalogue::workers::Request;
 
 fn reserved(k: i32) -> bool
     ensures { λ r. ⌜ r ≡ reserved k ⌝ }
@@ -16,14 +17,14 @@ fn reserved(k: i32) -> bool
 }
 
 // A key that the request uses is reserved; codes 1 to 3 use one.
-pub fn key_refused(code: u32, k: i32, l: i32) -> bool
-    ensures { λ r. ⌜ r ≡ key-refused code k l ⌝ }
+pub fn key_refused(q: Request) -> bool
+    ensures { λ r. ⌜ r ≡ key-refused q ⌝ }
 {
-    if reserved(k) {
+    if reserved(q.pair.k) {
         return true;
     }
-    if code <= 3 {
+    if q.code <= 3 {
         return false;
     }
-    reserved(l)
+    reserved(q.pair.l)
 }

@@ -1,4 +1,5 @@
--- Two catalogues that agree at every number of their pools: a catalogue and what its memory holds do; they are laid as one memory, and agree after the same write.
+-- Two catalogues that agree at every number of their pools, as a catalogue and what its memory holds do.
+-- They are laid as one memory, and agree after the same write.
 use Prim.Native.Nat.{ℕ, _<_}
 use mathlib.Core.Path.{_≡_, refl, ap, _∙_}
 use lib.IntN.{ℤ}
@@ -14,14 +15,14 @@ use Rattle.memory.proofs.Laid.{length-keys, length-words, laid-vkey, la
 
 -- equal counts, and equal fields at every number of their pools
 pub record Agree (C D : Catalogue) : Type 0 where
-  pub vertices : C .vertices-out ≡ D .vertices-out
-  pub edges : C .edges-out ≡ D .edges-out
-  pub vkeys : (n : ℕ) → n < vertex-pool → C .vkey n ≡ D .vkey n
-  pub vlinks : (n : ℕ) → n < vertex-pool → C .vlink n ≡ D .vlink n
-  pub firsts : (n : ℕ) → n < vertex-pool → C .first n ≡ D .first n
-  pub ekeys : (n : ℕ) → n < edge-pool → C .ekey n ≡ D .ekey n
-  pub targets : (n : ℕ) → n < edge-pool → C .target n ≡ D .target n
-  pub elinks : (n : ℕ) → n < edge-pool → C .elink n ≡ D .elink n
+  pub vertices : C .counts .vertices ≡ D .counts .vertices
+  pub edges : C .counts .edges ≡ D .counts .edges
+  pub vkeys : (n : ℕ) → n < vertex-pool → C .vertices .key n ≡ D .vertices .key n
+  pub vlinks : (n : ℕ) → n < vertex-pool → C .vertices .link n ≡ D .vertices .link n
+  pub firsts : (n : ℕ) → n < vertex-pool → C .vertices .first n ≡ D .vertices .first n
+  pub ekeys : (n : ℕ) → n < edge-pool → C .edges .key n ≡ D .edges .key n
+  pub targets : (n : ℕ) → n < edge-pool → C .edges .target n ≡ D .edges .target n
+  pub elinks : (n : ℕ) → n < edge-pool → C .edges .link n ≡ D .edges .link n
 
 pub agree-laid : (C : Catalogue) → Agree (view (lay C)) C
 unfolding lay
@@ -71,7 +72,7 @@ module _ {C D : Catalogue} (a : Agree C D) (n : ℕ) where
     vertices = a .vertices;
     edges = a .edges;
     vkeys = a .vkeys;
-    vlinks = upd-same vertex-pool (C .vlink) (D .vlink) n word (a .vlinks);
+    vlinks = upd-same vertex-pool (C .vertices .link) (D .vertices .link) n word (a .vlinks);
     firsts = a .firsts;
     ekeys = a .ekeys;
     targets = a .targets;
@@ -84,7 +85,7 @@ module _ {C D : Catalogue} (a : Agree C D) (n : ℕ) where
     edges = a .edges;
     vkeys = a .vkeys;
     vlinks = a .vlinks;
-    firsts = upd-same vertex-pool (C .first) (D .first) n word (a .firsts);
+    firsts = upd-same vertex-pool (C .vertices .first) (D .vertices .first) n word (a .firsts);
     ekeys = a .ekeys;
     targets = a .targets;
     elinks = a .elinks;
@@ -99,16 +100,16 @@ module _ {C D : Catalogue} (a : Agree C D) (n : ℕ) where
     firsts = a .firsts;
     ekeys = a .ekeys;
     targets = a .targets;
-    elinks = upd-same edge-pool (C .elink) (D .elink) n word (a .elinks);
+    elinks = upd-same edge-pool (C .edges .link) (D .edges .link) n word (a .elinks);
   }
 
   vertex-filled : (key : ℤ) (next : ℕ) → Agree (with-vertex C n key next) (with-vertex D n key next)
   vertex-filled key next = record {
     vertices = refl;
     edges = a .edges;
-    vkeys = upd-same vertex-pool (C .vkey) (D .vkey) n key (a .vkeys);
-    vlinks = upd-same vertex-pool (C .vlink) (D .vlink) n (link next plain) (a .vlinks);
-    firsts = upd-same vertex-pool (C .first) (D .first) n (link edge-tail plain) (a .firsts);
+    vkeys = upd-same vertex-pool (C .vertices .key) (D .vertices .key) n key (a .vkeys);
+    vlinks = upd-same vertex-pool (C .vertices .link) (D .vertices .link) n (link next plain) (a .vlinks);
+    firsts = upd-same vertex-pool (C .vertices .first) (D .vertices .first) n (link edge-tail plain) (a .firsts);
     ekeys = a .ekeys;
     targets = a .targets;
     elinks = a .elinks;
@@ -121,9 +122,9 @@ module _ {C D : Catalogue} (a : Agree C D) (n : ℕ) where
     vkeys = a .vkeys;
     vlinks = a .vlinks;
     firsts = a .firsts;
-    ekeys = upd-same edge-pool (C .ekey) (D .ekey) n key (a .ekeys);
-    targets = upd-same edge-pool (C .target) (D .target) n target (a .targets);
-    elinks = upd-same edge-pool (C .elink) (D .elink) n (link next transit) (a .elinks);
+    ekeys = upd-same edge-pool (C .edges .key) (D .edges .key) n key (a .ekeys);
+    targets = upd-same edge-pool (C .edges .target) (D .edges .target) n target (a .targets);
+    elinks = upd-same edge-pool (C .edges .link) (D .edges .link) n (link next transit) (a .elinks);
   }
 
 pub commit-agree : {C D : Catalogue} → Agree C D → (write : Write) → Agree (commit C write) (commit D write)

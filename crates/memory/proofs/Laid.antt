@@ -1,4 +1,5 @@
--- What stands in laid memory at each place is the field of the catalogue at its number, and a list that agrees with all fields is that memory.
+-- Each place of laid memory holds the field of the catalogue at its number.
+-- A list that agrees with all fields is that memory.
 use Prim.Native.Nat.{ℕ, zero, suc, _+_, _-_, _<_, _≤_}
 use mathlib.Core.Bool.{Bool, true, false}
 use mathlib.Core.List.{List}
@@ -17,7 +18,7 @@ use Rattle.memory.proofs.Sizes.{sized-is}
 use Rattle.laws.proofs.Gathers.{length-table}
 use Rattle.memory.proofs.Tables.{getD-table, getD-front, getD-behind}
 
--- where the tables of the words begin, behind the two counts
+-- where the tables of the words begin, after the two counts
 pub vlink-place : (n : ℕ) → 2 + n ≡ suc (suc n)
 vlink-place n = omega arith
 
@@ -40,27 +41,27 @@ module _ (C : Catalogue) where
   length-words = simp (length-append, length-table)
 
   module _ (n : ℕ) where
-    pub laid-vkey : n < 256 → vkeys (lay C .keys) n ≡ C .vkey n
+    pub laid-vkey : n < 256 → vkeys (lay C .keys) n ≡ C .vertices .key n
     unfolding lay
     laid-vkey h = simp getD-front
 
-    pub laid-ekey : n < 2048 → ekeys (lay C .keys) n ≡ C .ekey n
+    pub laid-ekey : n < 2048 → ekeys (lay C .keys) n ≡ C .edges .key n
     unfolding lay
     laid-ekey h = simp (getD-behind, getD-table)
 
-    pub laid-vlink : n < 256 → vlinks (lay C .words) n ≡ C .vlink n
+    pub laid-vlink : n < 256 → vlinks (lay C .words) n ≡ C .vertices .link n
     unfolding lay
     laid-vlink h = simp (vlink-place, getD-front)
 
-    pub laid-first : n < 256 → firsts (lay C .words) n ≡ C .first n
+    pub laid-first : n < 256 → firsts (lay C .words) n ≡ C .vertices .first n
     unfolding lay
     laid-first h = simp (first-place, getD-behind, getD-front)
 
-    pub laid-target : n < 2048 → targets (lay C .words) n ≡ C .target n
+    pub laid-target : n < 2048 → targets (lay C .words) n ≡ C .edges .target n
     unfolding lay
     laid-target h = simp (target-place, getD-behind, getD-front)
 
-    pub laid-elink : n < 2048 → elinks (lay C .words) n ≡ C .elink n
+    pub laid-elink : n < 2048 → elinks (lay C .words) n ≡ C .edges .link n
     unfolding lay
     laid-elink h = simp (elink-place, getD-behind, getD-table)
 
@@ -79,8 +80,8 @@ below-two P a b (suc (suc i)) h = absurd (omega arith)
 
 module _ (C : Catalogue) where
   pub laid-keys : (keys : List ℤ) → length keys ≡ keys-size
-      → ((n : ℕ) → n < 256 → vkeys keys n ≡ C .vkey n)
-      → ((n : ℕ) → n < 2048 → ekeys keys n ≡ C .ekey n)
+      → ((n : ℕ) → n < 256 → vkeys keys n ≡ C .vertices .key n)
+      → ((n : ℕ) → n < 2048 → ekeys keys n ≡ C .edges .key n)
       → keys ≡ lay C .keys
   laid-keys keys size vkey ekey =
       ext-getD (pos 0) keys (lay C .keys) (size ∙ sym (length-keys C)) (λ i h. agree i (rw size at h))
@@ -92,11 +93,11 @@ module _ (C : Catalogue) where
           (λ n h. ekey n h ∙ sym (laid-ekey C n h))
 
   pub laid-words : (words : List ℕ) → length words ≡ words-size
-      → vertex-count words ≡ C .vertices-out → edge-count words ≡ C .edges-out
-      → ((n : ℕ) → n < 256 → vlinks words n ≡ C .vlink n)
-      → ((n : ℕ) → n < 256 → firsts words n ≡ C .first n)
-      → ((n : ℕ) → n < 2048 → targets words n ≡ C .target n)
-      → ((n : ℕ) → n < 2048 → elinks words n ≡ C .elink n)
+      → vertex-count words ≡ C .counts .vertices → edge-count words ≡ C .counts .edges
+      → ((n : ℕ) → n < 256 → vlinks words n ≡ C .vertices .link n)
+      → ((n : ℕ) → n < 256 → firsts words n ≡ C .vertices .first n)
+      → ((n : ℕ) → n < 2048 → targets words n ≡ C .edges .target n)
+      → ((n : ℕ) → n < 2048 → elinks words n ≡ C .edges .link n)
       → words ≡ lay C .words
   unfolding lay
   laid-words words size vertices edges vlink first target elink =

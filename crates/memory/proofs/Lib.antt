@@ -4,8 +4,4 @@ pub mod Sizes
 pub mod Tables
 pub mod Laid
 pub mod Agrees
-pub mod Stores
-pub mod Commits
-pub mod Fills
-pub mod Zeros
 pub mod Slices

@@ -1,4 +1,4 @@
--- What the check of the stated sizes tells.
+-- What follows from the check of the stated sizes.
 use mathlib.Core.Bool.{Bool, true}
 use mathlib.Core.List.{List}
 use mathlib.Core.Path.{_≡_, sym, _∙_}
@@ -16,7 +16,7 @@ sized-is m e =
     let h = both-true (eqb (length (m .keys)) keys-size) (eqb (length (m .words)) words-size) e in
     record { keyed = eqb-true _ _ (h .0); worded = eqb-true _ _ (h .1) }
 
--- of the flag that the check gave
+-- of the flag that the check returned
 pub size-flag : (m : Memory) (r t : Bool) → r ≡ sized m → r ≡ t → sized m ≡ t
 size-flag m r t e q = sym e ∙ q
 

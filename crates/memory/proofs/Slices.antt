@@ -1,4 +1,5 @@
--- The slices of keys and words that a host lends to a walk, what they own, and how long their last lists are. Definitions.
+-- Definitions: the slices of keys and words that a host lends to a walk, what they own,
+-- and how long their last lists are.
 use Prim.Native.Nat.{ℕ}
 use mathlib.Core.List.{List}
 use mathlib.Core.Path.{_≡_}

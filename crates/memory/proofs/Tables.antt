@@ -1,4 +1,4 @@
--- A table of a function's values, as a list: what stands in it and behind it, and what a store makes of it.
+-- A table of a function's values, as a list: what stands in it and after it, and what a store makes of it.
 use Prim.Native.Nat.{ℕ, zero, suc, _+_, _<_}
 use mathlib.Core.Bool.{Bool, true, false}
 use mathlib.Core.List.{List, [], _∷_, _++_}

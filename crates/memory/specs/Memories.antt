@@ -1,4 +1,4 @@
--- Two lent slices as one memory, the catalogue that they hold, and the writes that stay within the pools.
+-- Two lent slices as one memory, the catalogue that they hold, and the writes within the pools.
 use Prim.Native.Nat.{ℕ, _<_, _≤_}
 use mathlib.Core.List.{List}
 use mathlib.Core.Path.{_≡_}
@@ -13,7 +13,8 @@ use Rattle.catalogue.specs.declared.writes.Write.the-variants.{Nothing, VertexL
 abbrev pub Hold : List ℤ → List ℕ → Catalogue → Type 0
 Hold keys words C = (keys ≡ lay C .keys) × (words ≡ lay C .words)
 
--- What a write asks of its numbers beyond their types: an edge is in its pool, and a vertex that is handed out is neither the head nor the tail.
+-- What a write asks of its numbers beyond their types: an edge is in its pool.
+-- A vertex that is handed out is neither the head nor the tail.
 abbrev pub Writable : Write → Type 0
 Writable Nothing = Unit {0}
 Writable (VertexLink n next tag) = Unit {0}

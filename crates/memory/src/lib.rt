@@ -1,8 +1,6 @@
-// The lent catalogue: the only crate that knows where a field stands in the two lent slices.
+// The lent catalogue: where each field stands in the two lent slices, and one read for each.
 pub mod checks;
-pub mod fresh;
 pub mod reads;
-pub mod writes;
 
 // How long the two lent slices are: `keys-size` and `words-size` of the definitions.
 pub const KEYS_SIZE: usize = 2304;

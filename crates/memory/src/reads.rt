@@ -1,4 +1,4 @@
-// One read for each field. A word is taken apart where it is read; what no link, target or count may be answers `Torn`.
+// One read for each field. A word is taken apart where it is read; one that is no link, target or count gives `Torn`.
 ghost use mathlib.Core.Path.{_≡_};
 ghost use Prim.Native.Nat.{_<_};
 ghost use lib.ListN.{length};

@@ -1,4 +1,4 @@
--- What a worker's decision tells of its place: the definitions of the steps, gone through test by test.
+-- What a worker's decision implies of its place: the definitions of the steps, gone through test by test.
 pub mod Told
 pub mod Places
 pub mod Vertices

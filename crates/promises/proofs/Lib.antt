@@ -1,4 +1,5 @@
--- The proofs of the promises: document 01's catalogue shows a world of plain lists, on which the crate `row` proves them.
+-- The proofs of the promises: document 01's catalogue shows a world of plain lists,
+-- on which the crate `row` proves them.
 pub mod Showing
 pub mod Hunts
 pub mod Steps

@@ -1,5 +1,5 @@
--- What the walks of document 01 meet in a catalogue that shows a good world: that it is sound, and that a listing prints the world's graph.
-pub mod Lines
+-- A catalogue that shows a good world: what its walks meet, that it is sound, and that its live graph is the world's.
+pub mod Among
 pub mod Walked
 pub mod Meets
 pub mod AtRest

@@ -1,4 +1,5 @@
--- All answered calls of a run stand in one row, by the row of the machine that makes the same run; and a call alone has one outcome.
+-- All answered calls of a run stand in one row, by the row of the machine that makes the same run;
+-- and a call alone has one outcome.
 pub mod Begins
 pub mod Sequential
 pub mod Row

@@ -3,7 +3,6 @@ pub mod Weighing
 pub mod Shows
 pub mod Tests
 pub mod Marks
-pub mod Tail
 pub mod Pools
 pub mod Written
 pub mod Turned

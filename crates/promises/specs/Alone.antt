@@ -1,4 +1,4 @@
--- The sequential catalogue: what each call replies and leaves when it is alone.
+-- The sequential catalogue: what each call replies when it is alone, and the graph after it.
 use Prim.Native.Nat.{ℕ}
 use mathlib.Core.Bool.{Bool, true, false}
 use mathlib.Core.Path.{_≡_}
@@ -15,12 +15,12 @@ pub data Ask : Type 0 where
 
 -- what a request asks for, by its code
 abbrev pub ask-of : Request → Ask
-ask-of r =
-    pick (eqb (r .code) 1) (AddV (r .k))
-    (pick (eqb (r .code) 2) (RemV (r .k))
-    (pick (eqb (r .code) 3) (ConV (r .k))
-    (pick (eqb (r .code) 4) (AddE (r .k) (r .l))
-    (pick (eqb (r .code) 5) (RemE (r .k) (r .l)) (ConE (r .k) (r .l))))))
+ask-of q =
+    pick (eqb (q .code) 1) (AddV (q .pair .k))
+    (pick (eqb (q .code) 2) (RemV (q .pair .k))
+    (pick (eqb (q .code) 3) (ConV (q .pair .k))
+    (pick (eqb (q .code) 4) (AddE (q .pair .k) (q .pair .l))
+    (pick (eqb (q .code) 5) (RemE (q .pair .k) (q .pair .l)) (ConE (q .pair .k) (q .pair .l))))))
 
 -- the graph with one series more, or without one and all that hung on it
 abbrev pub with-series : Graph → ℤ → Graph
@@ -39,7 +39,8 @@ with-pair g k l b = record { series = g .series; derived = λ i j. pick (eqZ i k
 abbrev pub both : Graph → ℤ → ℤ → Bool
 both g k l = pick (g .series k) (g .series l) false
 
--- Each call's replies, with the graph that it leaves. AddE replies 6 where the pair would close a loop: where a walk leads from l back to k.
+-- Each call's replies, with the graph after it.
+-- AddE replies 6 where the pair would close a loop: where a walk leads from l back to k.
 pub data Alone (g : Graph) : Ask → ℕ → Graph → Type 0 where
   addV-new : {k : ℤ} → g .series k ≡ false → Alone g (AddV k) 1 (with-series g k)
   addV-there : {k : ℤ} → g .series k ≡ true → Alone g (AddV k) 2 g

@@ -1,11 +1,11 @@
--- The step bounds on small runs, computed: what each choice is told, 0 where a step goes on.
+-- The step bounds on small runs, computed: what each choice returns, 0 where a step goes on.
 use Prim.Native.Nat.{ℕ, zero, suc}
 use mathlib.Core.List.{List, [], _∷_, _++_, map}
 use mathlib.Core.Path.{_≡_, refl}
 use lib.IntN.{pos}
 use lib.ListN.{replicate}
-use Rattle.catalogue.specs.Runs.{Choice, steps, Moment, telling, after, choose}
-use Rattle.catalogue.specs.Examples.Rows.{call, found}
+use Rattle.catalogue.specs.Choosing.{Choice, steps, Moment, telling, after, choose}
+use Rattle.catalogue.specs.Examples.Rows.{call, ends, found}
 use Rattle.catalogue.specs.Examples.Checked.{unused}
 use Rattle.catalogue.specs.declared.workers.Prev.the-variants.{First}
 use Rattle.promises.specs.Moments.{at}
@@ -37,7 +37,7 @@ ready = joined ++ call 0 4 (pos 7) (pos 8) 3
 
 inserts : Inserts 0 (at 1 ready)
 unfolding found after
-inserts = record { k = pos 7; l = pos 8; u = 4; v = 3; p = First; c = 0; e = 2; before = refl; tried = refl }
+inserts = record { ends = ends 7 8 4 3; p = First; c = 0; e = 2; before = refl; tried = refl }
 
 abbrev inserted : Moment
 inserted = choose (at 1 ready) (steps 0) .moment

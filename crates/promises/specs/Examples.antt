@@ -7,23 +7,24 @@ use native.Mathlib.Omega.{arith}
 use lib.IntN.{pos}
 use lib.ListN.{replicate}
 use Rattle.catalogue.specs.Calls.{step}
-use Rattle.catalogue.specs.Runs.{Choice, takes, steps, after}
+use Rattle.catalogue.specs.Choosing.{Choice, takes, steps, after}
+use Rattle.catalogue.specs.Workers.{asks}
 use Rattle.catalogue.specs.Examples.Rows.{found}
 use Rattle.catalogue.specs.declared.answers.Answer.the-variants.{Reply}
 use Rattle.promises.specs.Moments.{at}
-use Rattle.promises.specs.Graphs.{same-line, printed, live}
+use Rattle.promises.specs.Graphs.{among, live}
 use Rattle.promises.specs.Outside.{TrialEdge}
 
 -- a request with both keys, and so many steps of worker 0
 abbrev does : ℕ → ℕ → ℕ → ℕ → List Choice
-does code k l n = takes 0 code (pos k) (pos l) ∷ replicate n (steps 0)
+does code k l n = takes 0 (asks code (pos k) (pos l)) ∷ replicate n (steps 0)
 
 -- two series, the second derived from the first
 abbrev derived-once : List Choice
 derived-once = does 1 1 0 1 ++ (does 1 2 0 2 ++ does 4 1 2 7)
 
 pub edge-added : live (at 1 derived-once .catalogue) .derived (pos 1) (pos 2) ≡ true
-unfolding found after same-line printed
+unfolding found after among
 edge-added = refl
 
 -- the other half of a loop, up to its last step

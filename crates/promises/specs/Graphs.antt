@@ -1,11 +1,11 @@
--- The live graph as a listing prints it: which series there are, and which of them is derived from which.
+-- The live graph by keys: which series there are, and which of them is derived from which.
 use mathlib.Core.Bool.{Bool, true, false}
 use mathlib.Core.List.{List, [], _∷_}
 use mathlib.Core.Path.{_≡_}
 use lib.IntN.{ℤ}
 use Rattle.catalogue.specs.Tests.{pick, eqZ}
 use Rattle.catalogue.specs.Catalogue.{Catalogue}
-use Rattle.catalogue.specs.Listing.{vertex-lines, edge-lines}
+use Rattle.catalogue.specs.Live.{live-keys, live-pairs}
 
 pub record Graph : Type 0 where
   pub series : ℤ → Bool
@@ -14,19 +14,16 @@ pub record Graph : Type 0 where
 abbrev pub empty : Graph
 empty = record { series = λ k. false; derived = λ k l. false }
 
--- a line of numbers stands among others
-unfoldable pub same-line : List ℤ → List ℤ → Bool
-same-line [] [] = true
-same-line [] (l ∷ ls) = false
-same-line (k ∷ ks) [] = false
-same-line (k ∷ ks) (l ∷ ls) = pick (eqZ k l) (same-line ks ls) false
+-- whether a key, or a pair of keys, is in a list
+unfoldable pub among : {A : Type 0} → (A → A → Bool) → A → List A → Bool
+among same y [] = false
+among same y (x ∷ l) = pick (same y x) true (among same y l)
 
-unfoldable pub printed : List ℤ → List (List ℤ) → Bool
-printed l [] = false
-printed l (m ∷ ls) = pick (same-line l m) true (printed l ls)
+abbrev pub same-pair : ℤ × ℤ → ℤ × ℤ → Bool
+same-pair p q = pick (eqZ (p .0) (q .0)) (eqZ (p .1) (q .1)) false
 
 abbrev pub live : Catalogue → Graph
-live C = record { series = λ k. printed (k ∷ []) (vertex-lines C); derived = λ k l. printed (k ∷ l ∷ []) (edge-lines C) }
+live C = record { series = λ k. among eqZ k (live-keys C); derived = λ k l. among same-pair (k, l) (live-pairs C) }
 
 -- from one series to another over derivations, none or more
 pub data Walk (g : Graph) (to : ℤ) : ℤ → Type 0 where

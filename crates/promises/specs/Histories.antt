@@ -1,4 +1,5 @@
--- The history of a run: which call each choice answers, when that call was taken up, and the live graph between two choices.
+-- The history of a run: which call each choice answers, when that call was taken up,
+-- and the live graph between two choices.
 use Prim.Native.Nat.{ℕ, zero, suc}
 use mathlib.Core.Bool.{Bool, true, false}
 use mathlib.Core.List.{List, [], _∷_, _++_}
@@ -7,7 +8,7 @@ use lib.IntN.{pos}
 use lib.Dec.{eqb}
 use Rattle.catalogue.specs.Tests.{pick}
 use Rattle.catalogue.specs.Calls.{take-up, step}
-use Rattle.catalogue.specs.Runs.{Choice, takes, steps, sweeps, Moment, choose}
+use Rattle.catalogue.specs.Choosing.{Choice, takes, steps, sweeps, Moment, choose}
 use Rattle.catalogue.specs.declared.answers.Answer.{Answer}
 use Rattle.catalogue.specs.declared.answers.Answer.the-variants.{Going, Reply, Refused}
 use Rattle.row.specs.Rows.Row.{Call, History}
@@ -28,8 +29,7 @@ accepted (Refused r) = false
 
 -- what a choice takes up for a worker, if anything
 abbrev pub taken-up : Moment → Choice → ℕ → Option Ask
-taken-up m (takes v code k l) w =
-    pick (eqb v w) (pick (accepted (take-up (m .catalogue) (m .table) v code k l .answer)) (some (ask-of (record { code = code; k = k; l = l }))) none) none
+taken-up m (takes v q) w = pick (eqb v w) (pick (accepted (take-up (m .catalogue) (m .table) v q .answer)) (some (ask-of q)) none) none
 taken-up m (steps v) w = none
 taken-up m sweeps w = none
 
@@ -49,7 +49,7 @@ answers b (Reply n) = some (record { first = b .first; request = b .ask; reply =
 answers b (Refused r) = none
 
 abbrev pub answered-by : (ℕ → Begun) → Moment → Choice → Option (Call Ask ℕ)
-answered-by b m (takes v code k l) = none
+answered-by b m (takes v q) = none
 answered-by b m (steps v) = answers (b v) (step (m .catalogue) (m .table) v .answer)
 answered-by b m sweeps = none
 
@@ -68,7 +68,7 @@ reply-to w (Reply n) = (w, n) ∷ []
 reply-to w (Refused r) = []
 
 abbrev pub reply-by : Moment → Choice → List (ℕ × ℕ)
-reply-by m (takes v code k l) = []
+reply-by m (takes v q) = []
 reply-by m (steps v) = reply-to v (step (m .catalogue) (m .table) v .answer)
 reply-by m sweeps = []
 

@@ -9,7 +9,8 @@ use lib.Signed.{ltZ}
 use Rattle.catalogue.specs.Numbers.{least, greatest}
 use Rattle.catalogue.specs.Workers.{worker-at}
 use Rattle.catalogue.specs.declared.workers.Place.{Place}
-use Rattle.catalogue.specs.Runs.{Choice, takes, steps, sweeps, Moment, start, after}
+use Rattle.catalogue.specs.declared.workers.Request.{Request}
+use Rattle.catalogue.specs.Choosing.{Choice, takes, steps, sweeps, Moment, start, after}
 -- every member of a list
 pub use Rattle.row.specs.Rows.Row.{All, nil as none, also as each}
 
@@ -18,8 +19,13 @@ pub record Key (k : ℤ) : Type 0 where
   pub low : ltZ k least ≡ false
   pub high : ltZ greatest k ≡ false
 
+-- Both keys of a request are keys.
+pub record Fitting (q : Request) : Type 0 where
+  pub first : Key (q .pair .k)
+  pub second : Key (q .pair .l)
+
 abbrev pub Keyed : Choice → Type 0
-Keyed (takes w code k l) = Key k × Key l
+Keyed (takes w q) = Fitting q
 Keyed (steps w) = Unit {0}
 Keyed sweeps = Unit {0}
 
@@ -32,7 +38,8 @@ pub record Given (workers : ℕ) (choices : List Choice) : Type 0 where
 abbrev pub at : ℕ → List Choice → Moment
 at workers choices = after (start workers) choices
 
--- The moment after the first n of them, and the choice that is made then; past the last one a worker that is not there is asked to step.
+-- The moment after the first n of them, and the choice that is made then;
+-- past the last one a worker that is not there is asked to step.
 abbrev pub moment : ℕ → List Choice → ℕ → Moment
 moment workers choices n = at workers (take n choices)
 

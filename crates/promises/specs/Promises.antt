@@ -1,4 +1,5 @@
--- Demand 3: what holds of every run. Stated over the definitions that the contracts of the code cite; proved in proofs/.
+-- Demand 3: what holds of every run. Stated over the definitions that the contracts of the code cite;
+-- proved in proofs/.
 use Prim.Native.Nat.{ℕ, suc, _≤_, _<_}
 use mathlib.Core.Bool.{true, false}
 use mathlib.Core.List.{List, map}
@@ -9,7 +10,7 @@ use lib.ListN.{length}
 use Rattle.catalogue.specs.Catalogue.{Catalogue}
 use Rattle.catalogue.specs.Workers.{request-of}
 use Rattle.catalogue.specs.Calls.{take-up, step}
-use Rattle.catalogue.specs.Runs.{Choice, takes, steps, sweeps, Moment, start}
+use Rattle.catalogue.specs.Choosing.{Choice, takes, steps, sweeps, Moment, start}
 use Rattle.catalogue.specs.Run.{run}
 use Rattle.catalogue.specs.Script.{Script, good, read-script}
 use Rattle.catalogue.specs.Soundness.{Asks, sweep, sound}
@@ -17,6 +18,7 @@ use Rattle.catalogue.specs.Sweep.{any-busy, sweep-into}
 use Rattle.catalogue.specs.declared.answers.Refusal.the-variants.{Torn}
 use Rattle.catalogue.specs.declared.answers.Answer.the-variants as answer
 use Rattle.catalogue.specs.declared.answers.Made.the-variants as made
+use Rattle.catalogue.specs.declared.workers.Ends.{Ends}
 use Rattle.row.specs.Rows.Row.{Call, Entry, Explains}
 use Rattle.promises.specs.Moments.{Keyed, Given, at, moment, place-of}
 use Rattle.promises.specs.Graphs.{Graph, empty, live, Walk}
@@ -33,7 +35,7 @@ NoLoop =
 
 -- A call that is refused as torn.
 abbrev pub Refused-torn : Moment → Choice → Type 0
-Refused-torn m (takes w code k l) = take-up (m .catalogue) (m .table) w code k l .answer ≡ answer.Refused Torn
+Refused-torn m (takes w q) = take-up (m .catalogue) (m .table) w q .answer ≡ answer.Refused Torn
 Refused-torn m (steps w) = step (m .catalogue) (m .table) w .answer ≡ answer.Refused Torn
 Refused-torn m sweeps = sweep-into (m .catalogue) (m .catalogue) (m .table) .answer ≡ made.Refused Torn
 
@@ -47,7 +49,8 @@ SoundAtRest =
     (workers : ℕ) (choices : List Choice) → Given workers choices → (asks : Asks)
     → (asks ≡ sweep → any-busy (at workers choices .table) workers ≡ false) → sound asks (at workers choices .catalogue) ≡ true
 
--- Running a script that is accepted is such a run, with the same replies in the same order, so that all this holds of what the drill prints.
+-- Running a script that is accepted is such a run, with the same replies in the same order.
+-- So all this holds of what the drill prints.
 pub record Played (s : Script) : Type 0 where
   pub choices : List Choice
   pub given : Given (length (s .counts)) choices
@@ -57,8 +60,9 @@ pub record Played (s : Script) : Type 0 where
 abbrev pub ScriptsPlayed : Type 0
 ScriptsPlayed = (text : List ℕ) (s : Script) → read-script text ≡ good s → Played s
 
--- The answered calls other than those replied 6, 7 and 9 stand in one row: each once, each between its first and its last choice; done one at a time in that
--- order, from the empty graph, they give the replies that were given and the live graph that there is.
+-- The answered calls other than those replied 6, 7 and 9 stand in one row: each once,
+-- each between its first and its last choice. Done one at a time in that order, from the empty graph,
+-- they give the replies that were given and the live graph.
 abbrev pub OneRow : Type 0
 OneRow =
     (workers : ℕ) (choices : List Choice) → Given workers choices
@@ -68,13 +72,15 @@ OneRow =
 abbrev pub BeginsEmpty : Type 0
 BeginsEmpty = (workers : ℕ) (choices : List Choice) → history workers choices .live 0 ≡ empty
 
--- Whatever answers no call of the row leaves the live graph: taking up, going on, a refusal, a sweep, and the replies 6, 7 and 9.
+-- A choice that answers no call of the row keeps the live graph: taking up, going on, a refusal, a sweep,
+-- and the replies 6, 7 and 9.
 abbrev pub LiveKept : Type 0
 LiveKept =
     (workers : ℕ) (choices : List Choice) → Given workers choices → (n : ℕ) → let h = history workers choices in
     ((c : Call Ask ℕ) → h .answered (suc n) ≡ some c → in-row c ≡ false) → h .live (suc n) ≡ h .live n
 
--- A call that is alone has at most one outcome on any graph, so that what a row tells of each call is determined by the calls before it.
+-- A call that is alone has at most one outcome on any graph.
+-- So the calls before it in a row determine its reply and its graph.
 abbrev pub OneAtMost : Type 0
 OneAtMost = (g : Graph) (q : Ask) (m n : ℕ) (h i : Graph) → Alone g q m h → Alone g q n i → (m ≡ n) × (h ≡ i)
 
@@ -88,7 +94,8 @@ pub record Outcome (g : Graph) (q : Ask) : Type 0 where
 abbrev pub OneOutcome : Type 0
 OneOutcome = (C : Catalogue) (q : Ask) → Outcome (live C) q
 
--- Reply 9 is given exactly where a node is needed and its pool is used up: what was to be added is not in the live graph then. It changes nothing.
+-- Reply 9 is given exactly where a node is needed and its pool is used up:
+-- what was to be added is not in the live graph then. It changes nothing.
 abbrev pub NoRoom : Type 0
 NoRoom =
     (workers : ℕ) (choices : List Choice) → Given workers choices → (w : ℕ) → w < workers → let m = at workers choices in
@@ -99,29 +106,31 @@ NoRoom =
 abbrev pub OnTrial : Type 0
 OnTrial =
     (workers : ℕ) (choices : List Choice) → Given workers choices → (w : ℕ) → w < workers → let m = at workers choices in
-    Replies m w 7 → let r = request-of (place-of m w) in Rival workers m w (r .k) (r .l) × (left m w ≡ m .catalogue)
+    Replies m w 7 → let p = request-of (place-of m w) .pair in Rival workers m w p × (left m w ≡ m .catalogue)
 
--- The edges on trial are the own edges of the workers that try: each is tried by exactly one, and what a worker tries is on trial in the list of its u.
+-- The edges on trial are the own edges of the workers that try: each is tried by exactly one,
+-- and what a worker tries is on trial in the list of its u.
 abbrev pub EdgesTried : Type 0
 EdgesTried =
     (workers : ℕ) (choices : List Choice) → Given workers choices → let m = at workers choices in
     ((x e : ℕ) → TrialEdge (m .catalogue) x e → Tried workers m x e)
-    × ((w : ℕ) → w < workers → (k l : ℤ) (u v e : ℕ) → Tries k l u v e (place-of m w) → TrialEdge (m .catalogue) u e)
+    × ((w : ℕ) → w < workers → (ends : Ends) (e : ℕ) → Tries ends e (place-of m w) → TrialEdge (m .catalogue) (ends .u) e)
 
--- Reply 6 is given only where the trial has come from the target back to the source, over edges that stood when they were crossed. Nothing live changes.
+-- Reply 6 is given only where the trial has come from the target back to the source,
+-- over edges that stood when crossed. Nothing live changes.
 abbrev pub Cycle : Type 0
 Cycle =
     (workers : ℕ) (choices : List Choice) → Given workers choices → (w : ℕ) → w < workers → let m = at workers choices in
     Replies m w 6 → Closes workers choices w × (live (left m w) ≡ live (m .catalogue))
 
--- If no other edge was on trial meanwhile, the pair would have closed a loop when it was put in: whatever the trial crossed was live then, and so a walk led
--- from l to k.
+-- If no other edge was on trial meanwhile, the pair would have closed a loop when it was put in:
+-- whatever the trial crossed was live then, and so a walk led from l to k.
 abbrev pub CycleAlone : Type 0
 CycleAlone =
     (workers : ℕ) (choices : List Choice) → Given workers choices → (w : ℕ) → w < workers → (z : Closes workers choices w)
     → Undisturbed workers choices (z .e) (z .first) (length choices) → let C = moment workers choices (z .first) .catalogue in
-    ((n x y : ℕ) → z .first ≤ n → n < length choices → (r : Crosses workers choices w (z .k) (z .l) (z .u) (z .v) (z .e) n x y) → Lives C x (r .edge) y)
-    × Walk (live C) (z .k) (z .l)
+    ((n x y : ℕ) → z .first ≤ n → n < length choices → (r : Crosses workers choices w (z .ends) (z .e) n x y) → Lives C x (r .edge) y)
+    × Walk (live C) (z .ends .pair .k) (z .ends .pair .l)
 
 -- All of them, with the bounds on steps.
 pub record Promises : Type 0 where

@@ -1,1 +1,2 @@
-// What the user was promised of every run, stated in specs/Promises.antt and proved in proofs/ over the definitions that the code's contracts cite.
+// What the user was promised of every run, stated in specs/Promises.antt
+// and proved in proofs/ over the definitions that the code's contracts cite.

@@ -1,116 +1,102 @@
--- What a sweep keeps and what it leaves behind, for every sound catalogue: a sweep asks `sound sweep C`, and `sound listing C` is enough.
-use Prim.Native.Nat.{ℕ, _+_, _≤_}
+-- What a sweep keeps, and how it numbers the nodes, for every sound catalogue: a sweep asks `sound sweep C`, and
+-- `sound listing C` is enough.
+use Prim.Native.Nat.{ℕ, suc, _+_, _-_, _≤_, _<_}
 use mathlib.Core.Bool.{true}
-use mathlib.Core.List.{List, [], _∷_, _++_, map}
-use mathlib.Core.Path.{_≡_, refl, sym, ap, ap₂, _∙_}
-use native.Mathlib.Omega.{arith}
+use mathlib.Core.List.{List, _++_, map}
+use mathlib.Core.Path.{_≡_}
 use mir.Syntax.{w32}
 use mir.Val.{SFits}
-use lib.ListN.{length}
+use lib.IntN.{ℤ}
+use lib.ListN.{length, getD}
 use lib.Signed.{_≤ℤ_}
-use Rattle.catalogue.specs.Tests.{keep}
+use Rattle.catalogue.specs.Tests.{every, member, table-from}
 use Rattle.catalogue.specs.Numbers.{head, least, most-vertices, most-edges}
-use Rattle.catalogue.specs.Catalogue.{Catalogue, vertex-key, edge-key}
-use Rattle.catalogue.specs.Live.{vertices, edges-of, unmarked, is-added, is-live, live-vertices, live-edges-of, gather}
+use Rattle.catalogue.specs.Catalogue.{Catalogue, vertex-key, edge-key, edge-target}
+use Rattle.catalogue.specs.Live.{vertices, edges-of, unmarked, is-live, live-vertices, live-edges-of, live-edges, live-keys, live-pairs, gather}
 use Rattle.catalogue.specs.Soundness.{Asks, sound}
-use Rattle.catalogue.specs.Sweep.{swept}
+use Rattle.catalogue.specs.Sweep.{Swept-edge, source-at, swept-edge, swept-edges, held, swept}
 use Rattle.catalogue.specs.Text.{lines}
 use Rattle.catalogue.specs.Listing.{vertex-lines, edge-lines, added-edges}
-use Rattle.laws.proofs.Pools.{live-added}
-use Rattle.laws.proofs.Members.{All, all-each, keep-all}
-use Rattle.resting.specs.Rows.{row, all-row}
-use Rattle.laws.proofs.Gathers.{gather-same}
-use Rattle.resting.specs.Sound.{edges-few}
-use Rattle.resting.specs.Vertices.{live-few}
-use Rattle.resting.specs.Shape.{vertices-row, live-row, unmarked-at, each-vertex}
-use Rattle.resting.specs.Shares.{start, number, size, shares-length, edges-row, edge-keys-row, number-key}
-use Rattle.resting.specs.Targets.{Leads, leads, is-live-row, list-live}
-use Rattle.resting.specs.Standing.{Stands, stands-in, lists-row}
-use Rattle.resting.specs.Lines.{vertex-lines-kept, edge-lines-kept}
-use Rattle.resting.specs.Resound.{bits-least, sound-again}
+use Rattle.catalogue.specs.declared.links.Target.the-variants as target
 
-module _ (asks : Asks) (C : Catalogue) (s : sound asks C ≡ true) where
-  -- The same live graph: the keys of its vertices, and those of its edges' sources and targets, in their order.
-  pub same-vertices : vertex-lines (swept C) ≡ vertex-lines C
-  same-vertices = vertex-lines-kept asks C s
+-- so many numbers from one on
+abbrev pub row : ℕ → ℕ → List ℕ
+row from n = table-from (λ i. i) from n
 
-  pub same-edges : edge-lines (swept C) ≡ edge-lines C
-  same-edges = edge-lines-kept asks C s
+-- a number that a key has
+abbrev pub In : List ℤ → ℕ → Type 0
+In keys i = (2 ≤ i) × (i < 2 + length keys)
 
-  -- So a listing has the same body before and after.
-  pub same-body : lines (vertex-lines (swept C) ++ edge-lines (swept C)) ≡ lines (vertex-lines C ++ edge-lines C)
-  same-body = ap₂ (λ v e. lines (v ++ e)) same-vertices same-edges
+-- where the edges of a vertex begin, how many they are, and where they stop; `share` has the edges of each number
+module _ (share : ℕ → List Swept-edge) where
+  abbrev pub start : ℕ → ℕ
+  start i = suc (length (gather share (row 2 (i - 2))))
 
-  -- Sound again, whoever asks. The new head has the least key; vertices below that, which keys of 32 bits cannot be, would not do (`Below`).
-  pub swept-sound : least ≤ℤ vertex-key C head → (asked : Asks) → sound asked (swept C) ≡ true
-  swept-sound = sound-again asks C s
+  abbrev pub size : ℕ → ℕ
+  size i = length (share i)
 
-  pub swept-sound-bits : SFits w32 (vertex-key C head) → (asked : Asks) → sound asked (swept C) ≡ true
-  swept-sound-bits h = swept-sound (bits-least (vertex-key C head) h)
+  abbrev pub stop : ℕ → ℕ
+  stop i = start i + size i
 
-  -- Nothing marked is left, and nothing on trial: every edge is ADDED and leads to a vertex without a mark.
-  pub no-marks : All (λ x. unmarked (swept C) x ≡ true) (vertices (swept C))
-  no-marks = rw (vertices-row asks C s) (all-row (λ x. unmarked (swept C) x ≡ true) 2 (length (live-vertices C)) (unmarked-at asks C s))
+-- an edge whose target is the number of a key, which is the edge's
+pub record Leads (keys : List ℤ) (es : List Swept-edge) (e : ℕ) : Type 0 where
+  pub to : ℕ
+  pub read : edge-target (held keys es) e ≡ target.At to
+  pub low : 2 ≤ to
+  pub high : to < 2 + length keys
+  pub keyed : vertex-key (held keys es) to ≡ edge-key (held keys es) e
 
-  pub none-on-trial : All (λ x. All (λ e. is-live (swept C) e ≡ true) (edges-of (swept C) x)) (live-vertices (swept C))
-  none-on-trial = each-vertex asks C s (λ x. All (λ e. is-live (swept C) e ≡ true) (edges-of (swept C) x)) (list-live asks C s)
+module _ (C : Catalogue) where
+  -- the live vertex of a new number, and its edges
+  abbrev pub old : ℕ → ℕ
+  old i = getD (live-vertices C) (i - 2) 0
 
-  pub all-vertices : live-vertices (swept C) ≡ vertices (swept C)
-  all-vertices = live-row asks C s ∙ sym (vertices-row asks C s)
+  abbrev pub share : ℕ → List Swept-edge
+  share i = map (swept-edge C (old i)) (live-edges-of C (old i))
 
-  pub all-edges : All (λ x. live-edges-of (swept C) x ≡ edges-of (swept C) x) (live-vertices (swept C))
-  all-edges =
-      all-each (λ x. All (λ e. is-live (swept C) e ≡ true) (edges-of (swept C) x)) (λ x. live-edges-of (swept C) x ≡ edges-of (swept C) x)
-      (λ x h. keep-all (is-live (swept C)) (edges-of (swept C) x) h) (live-vertices (swept C)) none-on-trial
+  -- the vertex in whose list an edge number stands
+  pub record Stands (e : ℕ) : Type 0 where
+    pub source : In (live-keys C) (source-at (swept-edges C) e)
+    pub low : start share (source-at (swept-edges C) e) ≤ e
+    pub high : e < stop share (source-at (swept-edges C) e)
 
-  pub all-added : added-edges (swept C) ≡ gather (edges-of (swept C)) (live-vertices (swept C))
-  all-added =
-      gather-same (λ x. keep (is-added (swept C)) (edges-of (swept C) x)) (edges-of (swept C)) (live-vertices (swept C))
-      (all-each (λ x. All (λ e. is-live (swept C) e ≡ true) (edges-of (swept C) x)) (λ x. keep (is-added (swept C)) (edges-of (swept C) x) ≡ edges-of (swept C) x)
-      (λ x h. keep-all (is-added (swept C)) (edges-of (swept C) x)
-      (all-each (λ e. is-live (swept C) e ≡ true) (λ e. is-added (swept C) e ≡ true) (live-added (swept C)) (edges-of (swept C) x) h))
-      (live-vertices (swept C)) none-on-trial)
-
-  -- The shape: how many vertices and edges are handed out, and which they are.
   abbrev count : ℕ
-  count = length (live-vertices C)
+  count = length (live-keys C)
 
   abbrev edge-count : ℕ
-  edge-count = length (gather (live-edges-of C) (live-vertices C))
+  edge-count = length (live-edges C)
 
-  pub vertices-handed : (swept C .vertices-out ≡ count) × (count ≤ most-vertices)
-  unfolding swept
-  vertices-handed = (refl, live-few asks C s)
+  pub record Kept : Type 0 where
+    -- The same live graph: the keys of its vertices, and those of its edges' sources and targets, in their order.
+    pub same-keys : live-keys (swept C) ≡ live-keys C
+    pub same-pairs : live-pairs (swept C) ≡ live-pairs C
+    -- So a listing has the same body before and after.
+    pub same-body : lines (vertex-lines (swept C) ++ edge-lines (swept C)) ≡ lines (vertex-lines C ++ edge-lines C)
+    -- Sound again, for a listing and for a sweep. The new head has the least key; vertices below that, which keys of
+    -- 32 bits cannot be, would not do (proofs/Below).
+    pub swept-sound : least ≤ℤ vertex-key C head → (asked : Asks) → sound asked (swept C) ≡ true
+    pub swept-sound-bits : SFits w32 (vertex-key C head) → (asked : Asks) → sound asked (swept C) ≡ true
+    -- Nothing marked is left, and nothing on trial: every edge is ADDED and leads to a vertex without a mark.
+    pub no-marks : every (unmarked (swept C)) (vertices (swept C)) ≡ true
+    pub none-on-trial : every (λ x. every (is-live (swept C)) (edges-of (swept C) x)) (live-vertices (swept C)) ≡ true
+    pub all-vertices : live-vertices (swept C) ≡ vertices (swept C)
+    pub all-edges : (x : ℕ) → member x (live-vertices (swept C)) ≡ true → live-edges-of (swept C) x ≡ edges-of (swept C) x
+    pub all-added : added-edges (swept C) ≡ gather (edges-of (swept C)) (live-vertices (swept C))
+    -- The shape: how many vertices and edges are handed out, and which they are.
+    pub vertices-handed : (swept C .counts .vertices ≡ count) × (count ≤ most-vertices)
+    pub edges-handed : (swept C .counts .edges ≡ edge-count) × (edge-count ≤ most-edges)
+    pub vertex-numbers : vertices (swept C) ≡ row 2 count
+    pub edge-numbers : gather (edges-of (swept C)) (vertices (swept C)) ≡ row 1 edge-count
+    -- A vertex number: it has the key of its live vertex, and the numbers of its edges are a row with their keys.
+    pub new-key : (i : ℕ) → In (live-keys C) i → vertex-key (swept C) i ≡ vertex-key C (old i)
+    pub new-edges : (i : ℕ) → In (live-keys C) i → edges-of (swept C) i ≡ row (start share i) (size share i)
+    pub new-edge-keys : (i : ℕ) → In (live-keys C) i → map (edge-key (swept C)) (edges-of (swept C) i) ≡ map (edge-key C) (live-edges-of C (old i))
+    -- An edge number: the vertex in whose list it stands; that it is live; and the vertex of its key, to which it
+    -- leads.
+    pub edge-source : (e : ℕ) → 1 ≤ e → e ≤ edge-count → Stands e
+    pub edge-live : (e : ℕ) → 1 ≤ e → e ≤ edge-count → is-live (swept C) e ≡ true
+    pub edge-aim : (e : ℕ) → 1 ≤ e → e ≤ edge-count → Leads (live-keys C) (swept-edges C) e
 
-  pub edges-handed : (swept C .edges-out ≡ edge-count) × (edge-count ≤ most-edges)
-  unfolding swept
-  edges-handed = (shares-length C (live-vertices C), edges-few asks C s)
-
-  pub vertex-numbers : vertices (swept C) ≡ row 2 count
-  vertex-numbers = vertices-row asks C s
-
-  pub edge-numbers : gather (edges-of (swept C)) (vertices (swept C)) ≡ row 1 edge-count
-  unfolding gather
-  edge-numbers = ap (gather (edges-of (swept C))) vertex-numbers ∙ lists-row asks C s [] (live-vertices C) refl
-
-  -- A live vertex, by those before it: its new number has its key, and the numbers of its edges are a row with their keys.
-  module _ (front : List ℕ) (x : ℕ) (rest : List ℕ) (split : live-vertices C ≡ front ++ x ∷ rest) where
-    pub new-key : vertex-key (swept C) (number front) ≡ vertex-key C x
-    new-key = number-key asks C s front x rest split
-
-    pub new-edges : edges-of (swept C) (number front) ≡ row (start C front) (size C x)
-    new-edges = edges-row asks C s front x rest split
-
-    pub new-edge-keys : map (edge-key (swept C)) (edges-of (swept C) (number front)) ≡ map (edge-key C) (live-edges-of C x)
-    new-edge-keys = ap (map (edge-key (swept C))) new-edges ∙ edge-keys-row asks C s front x rest split
-
-  -- An edge number: the live vertex in whose list it stands; that it is live; and the vertex to which it leads, which has the edge's key.
-  module _ (e : ℕ) (low : 1 ≤ e) (high : e ≤ edge-count) where
-    pub edge-source : Stands C e
-    edge-source = stands-in C e low high
-
-    pub edge-live : is-live (swept C) e ≡ true
-    edge-live = is-live-row asks C s (edge-source .front) (edge-source .source) (edge-source .rest) (edge-source .split) e (edge-source .low) (edge-source .high)
-
-    pub edge-aim : Leads C e
-    edge-aim = leads asks C s e low (omega (arith, shares-length C (live-vertices C)))
+-- The statement.
+abbrev pub SweepKeeps : Type 0
+SweepKeeps = (asks : Asks) (C : Catalogue) → sound asks C ≡ true → Kept C

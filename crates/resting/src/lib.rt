@@ -1,1 +1,1 @@
-// No code: the laws of a sweep, over the definitions alone.
+// No code: what a sweep keeps, stated in specs/Kept.antt and proved in proofs/ over the definitions alone.

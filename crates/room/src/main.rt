@@ -4,9 +4,9 @@ use asking::perform::perform;
 use asking::print::print_line;
 use asking::print::print_tally;
 use asking::vertices::on_vertices;
+use clearing::fresh::fresh;
 use memory::KEYS_SIZE;
 use memory::WORDS_SIZE;
-use memory::fresh::fresh;
 use sweep::sweep::sweep;
 use workers::table::idle_table;
 
@@ -26,7 +26,7 @@ fn main() {
     // a removed vertex keeps its node
     ask(&mut keys, &mut words, 2, 0);
     ask(&mut keys, &mut words, 1, 254);
-    // a sweep leaves it behind
+    // a sweep does not keep it
     let mut new_keys = [0; KEYS_SIZE];
     let mut new_words = [0; WORDS_SIZE];
     let made = sweep(&keys, &words, &mut new_keys, &mut new_words, idle_table(1));

@@ -1,5 +1,6 @@
--- The machine: vertices, a world of them with edge lists, the steps of the six operations, runs and their history. Nothing is proved here.
+-- The machine: vertices, a world of them with edge lists, the steps of the six operations, choices, the runs that
+-- they make, and their history. Nothing is proved here.
 pub mod Vertices
 pub mod World
 pub mod Moves
-pub mod Runs
+pub mod Choices

@@ -12,7 +12,7 @@ use Rattle.catalogue.specs.Catalogue.{fresh}
 use Rattle.catalogue.specs.Listing.{Reply-line, reply-numbers}
 use Rattle.catalogue.specs.Numbers.{most-workers}
 use Rattle.catalogue.specs.Run.{Running, shares, with-reply, steps-on, takes-up, turn}
-use Rattle.catalogue.specs.Runs.{after}
+use Rattle.catalogue.specs.Choosing.{after}
 use Rattle.catalogue.specs.Script.{Script, sum, most-requests, most-turns}
 use Rattle.catalogue.specs.Text.{decimal, number, line, lines}
 use Rattle.catalogue.specs.Workers.{busy, worker-at, request-of, idle-table}
@@ -70,21 +70,21 @@ code-small Idle = tt
 code-small (AddV k p c) = tt
 code-small (RemV k p c) = tt
 code-small (ConV k c) = tt
-code-small (AddEFindU k l c) = tt
-code-small (RemEFindU k l c) = tt
-code-small (ConEFindU k l c) = tt
-code-small (AddEFindV k l u c) = tt
-code-small (RemEFindV k l u c) = tt
-code-small (ConEFindV k l u c) = tt
-code-small (AddE k l u v p c) = tt
-code-small (RemE k l u v p c) = tt
-code-small (ConE k l u v c) = tt
-code-small (Trial k l u v e) = tt
-code-small (TrialOpen k l u v e x c) = tt
+code-small (AddEFindU pair c) = tt
+code-small (RemEFindU pair c) = tt
+code-small (ConEFindU pair c) = tt
+code-small (AddEFindV pair u c) = tt
+code-small (RemEFindV pair u c) = tt
+code-small (ConEFindV pair u c) = tt
+code-small (AddE ends p c) = tt
+code-small (RemE ends p c) = tt
+code-small (ConE ends c) = tt
+code-small (Trial ends e) = tt
+code-small (TrialOpen ends e x c) = tt
 
 -- ---- a running
 
--- so many workers, who have given and owe no more replies than a script has requests, each with a short line
+-- so many workers, which have given and owe no more replies than a script has requests, each with a short line
 pub record Bounded (workers : ℕ) (r : Running) : Type 0 where
   pub counted : r .table .count ≡ workers
   pub long : length (r .table .workers) ≡ most-workers
@@ -134,14 +134,14 @@ module _ (workers : ℕ) (few : workers ≤ 8) (r : Running) (b : Bounded worker
   takes-bounded : busy (r .table) w ≡ false → (qs : List Request) → getD (r .left) w [] ≡ qs → Bounded workers (takes-up r w qs)
   takes-bounded off [] e = b
   takes-bounded off (q ∷ qs) e =
-      let m = take-up-starts (r .catalogue) (r .table) w off (q .code) (q .k) (q .l) in
+      let m = take-up-starts (r .catalogue) (r .table) w off q in
       record {
         counted = m .counted ∙ b .counted;
         long = m .long ∙ b .long;
         shared = length-set (r .left) w qs ∙ b .shared;
         owing = omega (arith, b .owing, m .owing (r .left) qs (omega (arith, b .long)) (omega (arith, b .shared)), ap length e);
         short = b .short;
-        ranged = take-up-alike (agree-laid (r .catalogue)) (r .table) (b .ranged) w (q .code) (q .k) (q .l) .range;
+        ranged = take-up-alike (agree-laid (r .catalogue)) (r .table) (b .ranged) w q .range;
       }
 
   pub turn-bounded : Bounded workers (turn r position w)

@@ -26,7 +26,7 @@ use Rattle.text.proofs.Naturals.{natural-short}
 use Rattle.run.specs.Promised.{Runs-script}
 use Rattle.run.proofs.TurnLaws.{is-sized}
 
--- the bytes of the word, its number and the spaces behind both
+-- the bytes of the word, its number and the spaces after both
 abbrev pub word : List ℕ
 word = 114 ∷ 101 ∷ 102 ∷ 117 ∷ 115 ∷ 101 ∷ 100 ∷ 32 ∷ 50 ∷ 55 ∷ 32 ∷ []
 
@@ -110,7 +110,7 @@ module _ (text : List ℕ) (keys : List ℤ) (words output : List ℕ) (z : Size
   pub drill-sure : (why : Refusal) → a ≡ ran.Refused why → ⊥
   drill-sure why e = not-refused (memory-of keys words) output (read-script text) why (sym answered ∙ e)
 
-  -- a refusal leaves the output as long as it was
+  -- a refusal keeps the length of the output
   pub drill-room : (line : ℕ) → a ≡ ran.BadScript line → output-size ≤ length output′
   drill-room line e = rw left (by (read-script text) (sym answered ∙ e))
     where

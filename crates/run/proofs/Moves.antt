@@ -1,17 +1,15 @@
--- What a step and a taking up do to the table: it stays as long, and a reply is given by who owed it.
+-- What a step and a taking up do to the table: its length is unchanged, and the worker that replies owed the reply.
 use Prim.Native.Nat.{ℕ, _+_, _≤_, _<_}
 use mathlib.Core.Bool.{true, false}
 use mathlib.Core.List.{List, []}
 use mathlib.Core.Path.{_≡_, refl, ap}
 use native.Mathlib.Omega.{arith}
-use lib.IntN.{ℤ}
 use lib.ListN.{length, getD, set, length-set}
 use lib.Seq.{set-getD}
-use Rattle.catalogue.specs.Catalogue.{Catalogue, vertex-link}
-use Rattle.catalogue.specs.Calls.{After, refuse, worker-fits, perform, step, start-up, take-up}
-use Rattle.catalogue.specs.Numbers.{head}
+use Rattle.catalogue.specs.Catalogue.{Catalogue}
+use Rattle.catalogue.specs.Calls.{After, refuse, worker-fits, perform, step, take-up}
 use Rattle.catalogue.specs.Steps.Decide.{decide}
-use Rattle.catalogue.specs.Steps.Places.{code-known, key-refused, first-place}
+use Rattle.catalogue.specs.Steps.Places.{first-place}
 use Rattle.catalogue.specs.Tests.{pick}
 use Rattle.catalogue.specs.Workers.{busy, busy-at, worker-at, put, bare, idle, blank}
 use Rattle.catalogue.specs.declared.answers.Answer.{Answer}
@@ -23,7 +21,8 @@ use Rattle.catalogue.specs.declared.workers.Place.{Place}
 use Rattle.catalogue.specs.declared.workers.Request.{Request}
 use Rattle.catalogue.specs.declared.workers.Table.{Table}
 use Rattle.catalogue.specs.declared.workers.Worker.{Worker}
-use Rattle.laws.proofs.Picks.{clash, pick-both, vertex-both}
+use Rattle.laws.proofs.Admits.{take-up-both}
+use Rattle.laws.proofs.Picks.{clash, pick-both}
 use Rattle.promises.proofs.Fates.Any.{reply-small}
 use Rattle.run.proofs.Owed.{one, owed, owed-set}
 
@@ -103,19 +102,12 @@ module _ (C : Catalogue) (t : Table) (w : ℕ) (off : busy t w ≡ false) where
         omega (arith, idled, ap (λ ws. owed ws (set ls w l)) (set-getD (t .workers) w blank), owed-set (t .workers) ls w (worker-at t w) l h k);
   }
 
-  pub take-up-starts : (code : ℕ) (k l : ℤ) → Starts C t w (take-up C t w code k l)
-  unfolding take-up start-up
-  take-up-starts code k l =
-      pick-both (Starts C t w) (worker-fits (t .count) w) _ _
-      (λ e. pick-both (Starts C t w) (busy t w) _ _ (λ f. refuse-starts _)
-      (λ f. pick-both (Starts C t w) (code-known code) _ _
-      (λ g. pick-both (Starts C t w) (key-refused code k l) _ _ (λ a. refuse-starts _)
-      (λ a. vertex-both (Starts C t w) (vertex-link C head) _ _ (refuse-starts _)
-      (λ first tag b. record {
+  pub take-up-starts : (q : Request) → Starts C t w (take-up C t w q)
+  take-up-starts q =
+      take-up-both C t w q (Starts C t w) (λ r torn. refuse-starts r)
+      (λ fits first h. record {
         kept = refl;
         counted = refl;
         long = length-set (t .workers) w _;
-        owing = λ ls qs h j. omega (arith, idled, at-most-one (first-place code k l first), owed-set (t .workers) ls w (bare (first-place code k l first)) qs h j);
-      })))
-      (λ g. refuse-starts _)))
-      (λ e. refuse-starts _)
+        owing = λ ls qs h j. omega (arith, idled, at-most-one (first-place q first), owed-set (t .workers) ls w (bare (first-place q first)) qs h j);
+      })

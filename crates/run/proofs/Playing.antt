@@ -45,7 +45,7 @@ pub record Playing (text : List ℕ) (c : Checked) (keys : List ℤ) (words l : 
 pub held-sized : (keys : List ℤ) (words : List ℕ) (r : Running) → Hold keys words (r .catalogue) → Sized keys words
 held-sized keys words r h = record { keyed = ap length (h .0) ∙ length-keys (r .catalogue); worded = ap length (h .1) ∙ length-words (r .catalogue) }
 
--- so that it stays as long as it was
+-- so that its length is unchanged
 module _ (text : List ℕ) (c : Checked) (keys keys₀ : List ℤ) (words words₀ l : List ℕ) (s : State) (place position : ℕ)
     (p : Playing text c keys words l s place position) (h : Hold keys₀ words₀ fresh) where
   pub same-keys : length keys ≡ length keys₀

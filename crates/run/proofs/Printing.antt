@@ -1,4 +1,4 @@
--- The contents line, the lines of the replies and the body, written one behind the other, are the whole result.
+-- The contents line, the lines of the replies and the body, written one after the other, are the whole result.
 use Prim.Native.Nat.{ℕ, _+_, _≤_}
 use mathlib.Core.List.{List, [], _∷_, _++_}
 use mathlib.Core.Path.{_≡_, ap, _∙_}

@@ -1,4 +1,5 @@
--- A script's run leaves a sound catalogue, so that its result can be printed, and what is printed is the result of the definition.
+-- A script's run ends in a sound catalogue, so its result can be printed. What is printed is the result of the
+-- definition.
 use Prim.Native.Nat.{ℕ, _≤_, _<_}
 use mathlib.Core.Bool.{true, false}
 use mathlib.Core.List.{List}
@@ -11,7 +12,7 @@ use lib.Seq.{length-take-le}
 use Rattle.catalogue.specs.Catalogue.{Catalogue}
 use Rattle.catalogue.specs.Lent.{Memory, memory-of, view, lay, sized, output-fits, output-size, lent-run}
 use Rattle.catalogue.specs.Listing.{Reply-line, result-text, written}
-use Rattle.catalogue.specs.Live.{gather, live-vertices, live-edges-of}
+use Rattle.catalogue.specs.Live.{live-edges}
 use Rattle.catalogue.specs.Numbers.{most-edges}
 use Rattle.catalogue.specs.Run.{run, run-text}
 use Rattle.catalogue.specs.Script.{Script, bad, good, read-script}
@@ -19,11 +20,11 @@ use Rattle.catalogue.specs.Soundness.{sound, listing}
 use Rattle.catalogue.specs.declared.answers.Refusal.the-variants as refusal
 use Rattle.catalogue.specs.declared.script.Ran.the-variants.{Written, Refused, BadScript}
 use Rattle.laws.proofs.Picks.{clash}
-use Rattle.memory.proofs.Agrees.{Agree, agree-laid}
+use Rattle.memory.proofs.Agrees.{agree-laid}
 use Rattle.lent.proofs.Listings.{text-same}
-use Rattle.lent.proofs.Lives.{live-edges-same, live-gathered}
+use Rattle.lent.proofs.Lives.{live-edges-same}
 use Rattle.listing.proofs.Results.{text-parts}
-use Rattle.resting.specs.Sound.{edges-few}
+use Rattle.resting.proofs.Sound.{edges-few}
 use Rattle.promises.proofs.Runs.Accepted.{scripts-played}
 use Rattle.promises.proofs.Runs.Course.{sound-at-rest}
 use Rattle.script.specs.Checks.{Answers, Is-script, script-in}
@@ -58,11 +59,9 @@ module _ (text : List ℕ) (c : Checked) (k : Is-script text c) (keys : List ℤ
   laid : memory-of keys words ≡ lay C
   laid = ap₂ memory-of (st .held .0) (st .held .1)
 
-  few-live : length (gather (live-edges-of (linked words)) (live-vertices (linked words))) ≤ most-edges
+  few-live : length (live-edges (linked words)) ≤ most-edges
   few-live =
-      let a : Agree (view (lay C)) C = agree-laid C in
-      let same : gather (live-edges-of (linked words)) (live-vertices (linked words)) ≡ gather (live-edges-of C) (live-vertices C) =
-      ap (λ (m : Memory). gather (live-edges-of (view m)) (live-vertices (view m))) laid ∙ live-gathered a (live-edges-of (view (lay C))) (live-edges-of C) (λ x h. live-edges-same a x h) in
+      let same : live-edges (linked words) ≡ live-edges C = ap (λ (m : Memory). live-edges (view m)) laid ∙ live-edges-same (agree-laid C) in
       omega (arith, ap length same, edges-few listing C (run-sound text (script-in text c) (k .reads)))
 
   -- what is printed is the result
@@ -89,7 +88,7 @@ module _ (text : List ℕ) (c : Checked) (k : Is-script text c) (keys : List ℤ
 
 -- ---- the call, by its checks
 
--- what the verdict tells
+-- what the verdict says
 module _ (text : List ℕ) (v : Verdict) (c : Checked) (a : Answers text v c) where
   pub bad-answer : (n : ℕ) → v ≡ verdict.Bad n → read-script text ≡ bad n
   bad-answer n e = subst (λ (v : Verdict). Answers text v c) e a

@@ -1,4 +1,5 @@
--- A turn on lent memory is the turn of the definition: what the code has stands for the running before it, and then for the one after it.
+-- A turn on lent memory is the turn of the definition: what the code has stands for the running before it, and then
+-- for the one after it.
 use Prim.Native.Nat.{ℕ, _≤_, _<_}
 use mathlib.Core.Bool.{Bool, true, false}
 use mathlib.Core.List.{List, []}

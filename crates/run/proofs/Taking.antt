@@ -1,4 +1,4 @@
--- An idle worker takes up the request that stands where its cursor is, and the cursor goes on behind it.
+-- An idle worker takes up the request at its cursor, and the cursor goes on after it.
 use Prim.Native.Nat.{ℕ, zero, suc, _-_, _≤_, _<_}
 use mathlib.Core.Bool.{false}
 use mathlib.Core.List.{List, [], _∷_}
@@ -19,7 +19,7 @@ use Rattle.catalogue.specs.declared.workers.Table.{Table}
 use Rattle.lent.proofs.Calls.{lent-take-up-laid}
 use Rattle.lent.proofs.Ranges.{Table-in-range}
 use Rattle.memory.specs.Memories.{Hold}
-use Rattle.row.specs.Base.{same?}
+use Rattle.row.proofs.Base.{same?}
 use Rattle.script.specs.Checks.{requests-at}
 use Rattle.script.specs.Shares.{at-request}
 use Rattle.script.specs.Lines.{request-at}
@@ -64,10 +64,10 @@ module _ (text : List ℕ) (keys : List ℤ) (words l : List ℕ) (s : State) (r
 
     takes-one : (n : ℕ) (q : Request) (next : ℕ) → getD (s .left) w 0 ≡ suc n → Stands text keys words l (taken m s w q next) (takes-up r w (q ∷ requests-at text n next))
     takes-one n q next c =
-        let call : lent-take-up m (s .table) w (q .code) (q .k) (q .l) ≡ after-call (take-up C (r .table) w (q .code) (q .k) (q .l)) =
-        ap₂ (λ (m : Memory) (t : Table). lent-take-up m t w (q .code) (q .k) (q .l)) laid (st .manned) ∙ lent-take-up-laid C (r .table) ranged w (q .code) (q .k) (q .l) in
+        let call : lent-take-up m (s .table) w q ≡ after-call (take-up C (r .table) w q) =
+        ap₂ (λ (m : Memory) (t : Table). lent-take-up m t w q) laid (st .manned) ∙ lent-take-up-laid C (r .table) ranged w q in
         record {
-          held = subst (Hold keys words) (sym (take-up-starts C (r .table) w off (q .code) (q .k) (q .l) .kept)) (st .held);
+          held = subst (Hold keys words) (sym (take-up-starts C (r .table) w off q .kept)) (st .held);
           manned = ap (λ (x : Lent-call). x .outcome .table) call;
           left = same-request n next c;
           counted = st .counted;
@@ -93,5 +93,5 @@ module _ (text : List ℕ) (keys : List ℤ) (words l : List ℕ) (s : State) (r
         by (suc n) e (line.Read q next) f =
             let more : getD (r .left) w [] ≡ q ∷ requests-at text n next = left-one n e ∙ ap (λ (x : Line). at-request x [] (λ q next. q ∷ requests-at text n next)) f in
             let up : taken m s w q next ≡ taken-next text m s w =
-            taken-line text m s w (omega arith) (line.Read q next) (sym f) q next refl (lent-take-up m (s .table) w (q .code) (q .k) (q .l) .outcome) (q .k) (q .l) refl refl refl in
+            taken-line text m s w (omega arith) (line.Read q next) (sym f) q next refl _ refl in
             rw (sym up, more) (takes-one n q next e)

@@ -1,4 +1,4 @@
--- The answer of a step is told: a reply has a line more, any other answer none.
+-- The answer of a step is recorded: a reply has a line more, any other answer none.
 use Prim.Native.Nat.{ℕ, _+_, _≤_}
 use mathlib.Core.List.{List, [], _∷_, _++_, append-assoc}
 use mathlib.Core.Path.{_≡_, refl, sym, ap, _∙_}

@@ -1,10 +1,9 @@
--- The ways through a turn on lent memory: the answer of a step is told, or the next request is taken up.
+-- The ways through a turn on lent memory: the answer of a step is recorded, or the next request is taken up.
 use Prim.Native.Nat.{ℕ, _+_, _-_}
 use mathlib.Core.Bool.{Bool, true, false}
 use mathlib.Core.List.{List}
 use mathlib.Core.Path.{_≡_, refl, sym, ap, ap₂, _∙_}
-use borrow.Author.Needs.{needs, sfits-of}
-use mir.Facts.{toZ-ofZ}
+use borrow.Author.Needs.{needs}
 use borrow.Author.Tests.{eq-eqb, ne-eqb}
 use lib.IntN.{ℤ}
 use lib.ListN.{length, getD, set}
@@ -26,7 +25,7 @@ use Rattle.text.specs.Puts.{put-at}
 use Rattle.run.specs.Turns.{reply-bytes, moved, told, lines-told, taken-next, Turns}
 use Rattle.run.specs.declared.states.State.{State}
 
--- sizes as the check tells them
+-- sizes as the check found them
 pub is-sized : (keys : List ℤ) (words : List ℕ) → Sized keys words → sized (memory-of keys words) ≡ true
 unfolding sized
 is-sized keys words s = rw (s .keyed, s .worded) refl
@@ -43,18 +42,15 @@ module _ (text : List ℕ) (m : Memory) (s : State) (w : ℕ) where
     unfolding taken-next
     bad-line q = rw (ne-eqb _ _ some, sym e ∙ q) refl
 
-    pub taken-line : (q : Request) (next : ℕ) → l ≡ line.Read q next → (o : Outcome) (k k′ : ℤ) → o ≡ lent-take-up m (s .table) w (q .code) k k′ .outcome → k ≡ q .k → k′ ≡ q .l
+    pub taken-line : (q : Request) (next : ℕ) → l ≡ line.Read q next → (o : Outcome) → o ≡ lent-take-up m (s .table) w q .outcome
         → _≡_ {A = State} (record { table = o .table; at = set (s .at) w next; left = set (s .left) w (getD (s .left) w 0 - 1); replies = s .replies; end = s .end }) (taken-next text m s w)
     unfolding taken-next
-    taken-line q next f o k k′ g a b =
+    taken-line q next f o g =
         rw (ne-eqb _ _ some, sym e ∙ f)
         (ap (λ (t : Table). record { table = t; at = set (s .at) w next; left = set (s .left) w (getD (s .left) w 0 - 1); replies = s .replies; end = s .end })
-        (ap (λ (o : Outcome). o .table) (g ∙ ap₂ (λ (k l : ℤ). lent-take-up m (s .table) w (q .code) k l .outcome) a b)))
+        (ap (λ (o : Outcome). o .table) g))
 
 pub ruleset taking = (none-left, bad-line, needs)
-
--- keys are passed on as they are
-pub ruleset key-args = (toZ-ofZ, sfits-of, needs)
 
 -- ---- the answer of a step
 

@@ -5,7 +5,7 @@ use lib.IntN.{ℤ, pos}
 use lib.ListN.{length}
 use Rattle.catalogue.specs.Lent.{Sized, catalogue-in, output-size}
 use Rattle.catalogue.specs.Listing.{added-edges, vertex-lines, edge-lines}
-use Rattle.catalogue.specs.Live.{gather, live-vertices, live-edges-of}
+use Rattle.catalogue.specs.Live.{live-vertices, live-edges}
 use Rattle.catalogue.specs.Numbers.{most-edges}
 use Rattle.catalogue.specs.Text.{line, lines}
 use Rattle.survey.specs.Walks.{linked}
@@ -21,4 +21,4 @@ pub record Printable (keys : List ℤ) (words output told : List ℕ) : Type 0 w
   pub sized : Sized keys words
   pub roomy : output-size ≤ length output
   pub short : length told ≤ lines-size
-  pub few : length (gather (live-edges-of (linked words)) (live-vertices (linked words))) ≤ most-edges
+  pub few : length (live-edges (linked words)) ≤ most-edges

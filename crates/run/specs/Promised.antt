@@ -1,5 +1,5 @@
--- What running a script promises of its answer and of the lent slices, for any text, memory and output; and that any two results which the promise
--- allows coincide.
+-- What running a script promises of its answer and of the lent slices, for any text, memory and output; and that any
+-- two results which the promise allows coincide.
 use Prim.Native.Nat.{ℕ}
 use mathlib.Core.List.{List}
 use mathlib.Core.Path.{_≡_, sym, _∙_}
@@ -7,7 +7,7 @@ use lib.IntN.{ℤ}
 use Rattle.catalogue.specs.Lent.{Memory, lent-run}
 use Rattle.catalogue.specs.declared.script.Ran.{Ran}
 
--- the answer, and all three slices as the call leaves them
+-- the answer, and all three slices after the call
 abbrev pub Runs-script : List ℕ → Memory → List ℕ → Ran → List ℤ → List ℕ → List ℕ → Type 0
 Runs-script text m output r keys words output′ =
     (r ≡ lent-run text m output .answer)

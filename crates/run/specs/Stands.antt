@@ -1,4 +1,5 @@
--- What the code has of a run so far: lent memory, the lines of the replies, and its state, against the running of the definition.
+-- What the code has of a run so far: lent memory, the lines of the replies, and its state, against the running of
+-- the definition.
 use Prim.Native.Nat.{ℕ, _<_}
 use mathlib.Core.List.{List, [], map}
 use mathlib.Core.Path.{_≡_}
@@ -17,8 +18,8 @@ use Rattle.run.specs.declared.states.State.{State}
 abbrev pub reply-text : List Reply-line → List ℕ
 reply-text replies = lines (map reply-numbers replies)
 
--- The memory is that of the catalogue, the table is the same, and each worker's requests are read from where its next one stands; the lines stand at the
--- start of their buffer.
+-- The memory is that of the catalogue, the table is the same, and each worker's requests are read from where its next
+-- one stands; the lines stand at the start of their buffer.
 pub record Stands (text : List ℕ) (keys : List ℤ) (words told : List ℕ) (s : State) (r : Running) : Type 0 where
   pub held : Hold keys words (r .catalogue)
   pub manned : s .table ≡ r .table

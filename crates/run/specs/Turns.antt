@@ -1,4 +1,5 @@
--- One turn on lent memory, as the code has it: what becomes of its state, of the memory and of the lines of the replies.
+-- One turn on lent memory, as the code has it: what becomes of its state, of the memory and of the lines of the
+-- replies.
 use Prim.Native.Nat.{ℕ, _+_, _-_, _≤_}
 use mathlib.Core.Bool.{true}
 use mathlib.Core.List.{List, [], _∷_}
@@ -46,10 +47,10 @@ lines-told lines end position worker code (Refused r) = lines
 
 -- ---- the next request
 
--- the state after a request is taken up, with the text that goes on behind it
+-- the state after a request is taken up, with the text that goes on after it
 abbrev pub taken : Memory → State → ℕ → Request → ℕ → State
 taken m s w q next = record {
-  table = lent-take-up m (s .table) w (q .code) (q .k) (q .l) .outcome .table;
+  table = lent-take-up m (s .table) w q .outcome .table;
   at = set (s .at) w next;
   left = set (s .left) w (getD (s .left) w 0 - 1);
   replies = s .replies;
@@ -88,7 +89,7 @@ pub record Ready (keys : List ℤ) (words lines : List ℕ) (s : State) (w : ℕ
   pub room : s .end + 48 ≤ length lines
   pub few : s .replies ≤ 1024
 
--- the state after a turn, and the lent slices as it leaves them
+-- the state after a turn, and the lent slices after it
 abbrev pub Turns : List ℕ → Memory → List ℕ → State → ℕ → ℕ → State → List ℤ → List ℕ → List ℕ → Type 0
 Turns text m lines s position w r keys′ words′ lines′ =
     (r ≡ turned text m lines s position w .state)

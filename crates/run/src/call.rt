@@ -8,14 +8,15 @@ use crate::plays::play;
 use crate::prints::print;
 use catalogue::answers::Refusal;
 use catalogue::script::Ran;
+use clearing::fresh::lay_fresh;
 use listing::call::OUTPUT_SIZE;
 use memory::checks::sized;
-use memory::fresh::lay_fresh;
 use script::checks::Checked;
 use script::checks::Verdict;
 use script::checks::check;
 
-// The lines of the replies wait in a buffer of their own: the contents line before them counts what the run leaves.
+// The lines of the replies wait in a buffer of their own: the contents line before them counts what there is after
+// the run.
 fn run_script(
     text: &[u8],
     keys: &mut [i32],

@@ -14,7 +14,8 @@ use script::checks::Checked;
 use script::turns::read_turn;
 use workers::table::idle_table;
 
-// All workers are idle, and each has all its requests left. That the arrays have eight members is told for the loop, which cannot see it.
+// All workers are idle, and each has all its requests left. That the arrays have eight
+// members is stated for the loop, which cannot see it.
 fn begin(workers: u32, at: [usize; 8], left: [u32; 8]) -> State
     ensures { λ r. ⌜ r ≡ begins workers at left ⌝ }
     ensures { λ r. ⌜ length at ≡ 8 ⌝ }
@@ -30,7 +31,8 @@ fn begin(workers: u32, at: [usize; 8], left: [u32; 8]) -> State
     }
 }
 
-// The text is a script, as its check tells; the positions of the turns begin at 1. The lines of at most 1,024 replies have at most 11 bytes each.
+// The text is a script, as its check found; the positions of the turns begin at 1. The lines of at most 1,024
+// replies have at most 11 bytes each.
 pub fn play(text: &[u8], keys: &mut [i32], words: &mut [u32], lines: &mut [u8], c: Checked) -> State
     requires { ⌜ Is-script (now text) c ⌝ }
     requires { ⌜ Hold (now keys) (now words) fresh ⌝ }

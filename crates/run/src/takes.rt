@@ -21,15 +21,7 @@ pub fn take_next(text: &[u8], keys: &[i32], words: &[u32], s: State, worker: u32
     let Line::Read { request, next } = read_request(text, at) else {
         return s;
     };
-    let o = take_up(
-        keys,
-        words,
-        s.table,
-        worker,
-        request.code,
-        request.k,
-        request.l,
-    );
+    let o = take_up(keys, words, s.table, worker, request);
     let table = o.table;
     let mut starts = s.at;
     starts[w] = next;

@@ -1,4 +1,4 @@
-// What becomes of the answer of a step: a reply has a line behind those of the replies before it.
+// What becomes of the answer of a step: a reply gets a line after those of the replies before it.
 ghost use mathlib.Core.Path.{_≡_};
 ghost use Prim.Native.Nat.{_+_, _≤_};
 ghost use lib.ListN.{length};

@@ -1,92 +1,60 @@
--- The words of a header, read one after the other: each number joins the counts before it, and the one behind all counts ends the line.
+-- The words of a header, read one after the other.
+-- Each number joins the counts before it, and the one after all counts ends the line.
 use Prim.Native.Nat.{ℕ, _+_, _-_, _≤_, _<_}
-use mathlib.Core.Bool.{false}
-use mathlib.Core.List.{List, [], _∷_, _++_, append-assoc}
+use mathlib.Core.Bool.{true, false}
+use mathlib.Core.List.{List, [], _∷_, _++_, append-assoc, append-nil}
+use mathlib.Core.Logic.{inl, inr}
 use mathlib.Core.Option.{Option, none, some}
 use mathlib.Core.Path.{_≡_, refl, sym, ap, _∙_}
 use native.Mathlib.Omega.{arith}
 use native.Mathlib.Numerals.{add-one}
+use lib.Dec.{ltb}
 use lib.ListN.{length, set, take, replicate, length-set, length-append}
 use lib.Seq.{length-take-le, take-suc, take-set-le, getD-set-same}
-use borrow.Author.Tests.{leb-false}
-use Rattle.catalogue.specs.Tests.{given}
+use borrow.Author.Tests.{lt-ltb, le-ltb, leb-false}
+use Rattle.catalogue.specs.Tests.{pick, given}
 use Rattle.catalogue.specs.Script.{all-of, natural, header-of, most-requests, most-turns}
-use Rattle.script.specs.Words.{most-number, number-fits, number-at}
+use Rattle.digits.specs.Digits.{most-number, number-fits}
+use Rattle.digits.proofs.Values.{none-or}
+use Rattle.laws.proofs.Cases.{lt-or}
+use Rattle.script.specs.Words.{number-at, at-number}
 use Rattle.script.specs.Lines.{words-at}
-use Rattle.script.specs.Headers.{Numbered, counting, counts-at, Counted}
+use Rattle.script.specs.Headers.{Numbered, numbered, header-parts, counting, counts-at, Counted}
 use Rattle.script.specs.declared.numbers.Number.{Number}
 use Rattle.script.specs.declared.numbers.Number.the-variants as number
-use Rattle.script.proofs.Tools.{none-if, all-pair, all-end}
-use Rattle.script.proofs.LineLaws.{words-none, not-found, item-last, item-more}
-use Rattle.script.proofs.ItemLaws.{number-stands}
-use Rattle.script.proofs.HeaderLaws.{sum-append, sum-pair, sum-none, parts, header-made, header-late, header-off, header-sum, header-large}
+use Rattle.script.proofs.Tools.{none-if, given-none, all-pair, all-end, fitting}
+use Rattle.script.proofs.LineLaws.{words-none, Goes, read-on, by-number}
+use Rattle.script.proofs.HeaderParts.{sum-append, sum-pair, sum-none, parts, header-made, header-late, header-off, header-sum, header-large}
 
 -- ---- one number of several
 
-module _ (workers : ℕ) (cs : List ℕ) where
-  counting-none : (w : List ℕ) (ws : List (List ℕ)) → natural w ≡ none → counting workers cs (w ∷ ws) ≡ none
-  counting-none w ws q = rw (all-pair natural w ws, q)
-
-  module _ (w : List ℕ) (n : ℕ) (q : natural w ≡ some n) where
-    counting-last : counting workers cs (w ∷ []) ≡ header-of (workers ∷ (cs ++ (n ∷ [])))
-    counting-last = rw (all-pair natural w [], q, all-end natural)
-
-    module _ (ws : List (List ℕ)) where
-      counting-never : ((ns : List ℕ) → header-of (workers ∷ (cs ++ (n ∷ ns))) ≡ none) → counting workers cs (w ∷ ws) ≡ none
-      counting-never never = rw (all-pair natural w ws, q) (by (all-of natural ws))
-        where
-          by : (o : Option (List ℕ)) → given (given o none (λ ns. some (n ∷ ns))) none (λ ns. header-of (workers ∷ (cs ++ ns))) ≡ none
-          by none = refl
-          by (some ns) = never ns
-
-      counting-large : number-fits n ≡ false → counting workers cs (w ∷ ws) ≡ none
-      counting-large t = counting-never (λ ns. header-large workers cs n ns (omega (arith, leb-false n most-number t)))
-
-      counting-pair : counting workers cs (w ∷ ws) ≡ counting workers (cs ++ (n ∷ [])) ws
-      counting-pair = rw (all-pair natural w ws, q) (by (all-of natural ws))
-        where
-          by : (o : Option (List ℕ))
-              → given (given o none (λ ns. some (n ∷ ns))) none (λ ns. header-of (workers ∷ (cs ++ ns))) ≡ given o none (λ ns. header-of (workers ∷ ((cs ++ (n ∷ [])) ++ ns)))
-          by none = refl
-          by (some ns) = ap (λ l. header-of (workers ∷ l)) (sym (append-assoc cs (n ∷ []) ns))
-
-  -- words too many
-  counting-full : workers < length cs → (w : List ℕ) (ws : List (List ℕ)) → counting workers cs (w ∷ ws) ≡ none
-  counting-full l w ws = by (natural w) refl
-    where
-      by : (o : Option ℕ) → natural w ≡ o → counting workers cs (w ∷ ws) ≡ none
-      by none q = counting-none w ws q
-      by (some n) q = counting-never w n q ws (λ ns. header-off workers cs n ns (omega arith))
+module _ (workers : ℕ) where
+  never : (cs ws : _) → ((ns : List ℕ) → header-of (workers ∷ (cs ++ ns)) ≡ none) → counting workers cs ws ≡ none
+  never cs ws none-of = given-none (all-of natural ws) (λ ns. header-of (workers ∷ (cs ++ ns))) none-of
 
   -- a number of workers that no script has
-  pub outside : (1 ≤ workers → workers ≤ 8 → ⊥) → (ws : List (List ℕ)) → counting workers cs ws ≡ none
-  outside off ws = by (all-of natural ws)
-    where
-      by : (o : Option (List ℕ)) → given o none (λ ns. header-of (workers ∷ (cs ++ ns))) ≡ none
-      by none = refl
-      by (some ns) =
-          none-if (header-of (workers ∷ (cs ++ ns))) (λ h e. off (parts workers (cs ++ ns) h e .one) (parts workers (cs ++ ns) h e .few))
+  pub outside : (1 ≤ workers → workers ≤ 8 → ⊥) → (cs : List ℕ) (ws : List (List ℕ)) → counting workers cs ws ≡ none
+  outside off cs ws = never cs ws (λ ns. none-if (header-of (workers ∷ (cs ++ ns))) (λ h e. off (parts workers (cs ++ ns) h e .one) (parts workers (cs ++ ns) h e .few)))
 
-  module _ (text : List ℕ) (at : ℕ) (r : Number) (e : r ≡ number-at text at) where
-    number-bad : r ≡ number.Bad → words-at (counting workers cs) text at ≡ none
-    number-bad q = not-found natural number-fits text at (counting workers cs) (number-stands text at r e none q) counting-none (λ w n ws s t. counting-large w n s ws t)
+  module _ (cs : List ℕ) where
+    joined : (n : ℕ) (ws : List (List ℕ)) → ((ns : List ℕ) → header-of (workers ∷ (cs ++ (n ∷ ns))) ≡ none) → counting workers (cs ++ (n ∷ [])) ws ≡ none
+    joined n ws none-of = never (cs ++ (n ∷ [])) ws (λ ns. rw (append-assoc cs (n ∷ []) ns) (none-of ns))
 
-    module _ (n next : ℕ) where
-      number-last : r ≡ number.Last n next → words-at (counting workers cs) text at ≡ given (header-of (workers ∷ (cs ++ (n ∷ [])))) none (λ h. some (h, next))
-      number-last q =
-          item-last (counting workers cs) text at natural number-fits n next (number-stands text at r e _ q)
-          (header-of (workers ∷ (cs ++ (n ∷ [])))) (λ w s t. counting-last w n s)
+    goes : Goes natural number-fits (counting workers cs) (λ n. counting workers (cs ++ (n ∷ [])))
+    goes w ws =
+        all-pair natural w ws (λ ns. header-of (workers ∷ (cs ++ ns)))
+        ∙ simp append-assoc
+        (fitting (natural w) (λ n. given (all-of natural ws) none (λ ns. header-of (workers ∷ (cs ++ (n ∷ ns)))))
+        (λ n t. given-none (all-of natural ws) (λ ns. header-of (workers ∷ (cs ++ (n ∷ ns)))) (λ ns. header-large workers cs n ns (omega (arith, leb-false n most-number t)))))
 
-      number-more : r ≡ number.More n next → words-at (counting workers cs) text at ≡ words-at (counting workers (cs ++ (n ∷ []))) text next
-      number-more q =
-          item-more (counting workers cs) text at natural number-fits n next (number-stands text at r e _ q)
-          (counting workers (cs ++ (n ∷ []))) (λ w s t. counting-pair w n s)
+    -- words too many
+    full : workers < length cs → (w : List ℕ) (ws : List (List ℕ)) → counting workers cs (w ∷ ws) ≡ none
+    full l w ws =
+        goes w ws ∙ given-none (natural w) (λ n. pick (number-fits n) (counting workers (cs ++ (n ∷ [])) ws) none)
+        (λ n. none-or (number-fits n) (counting workers (cs ++ (n ∷ [])) ws) (joined n ws (λ ns. header-off workers cs n ns (omega arith))))
 
-      number-never : r ≡ number.More n next → ((ns : List ℕ) → header-of (workers ∷ (cs ++ (n ∷ ns))) ≡ none) → words-at (counting workers cs) text at ≡ none
-      number-never q never =
-          item-more (counting workers cs) text at natural number-fits n next (number-stands text at r e _ q)
-          (λ ws. none) (λ w s t ws. counting-never w n s ws never)
-          ∙ words-none (λ ws. none) text next (λ w ws. refl)
+    last-of : (n : ℕ) → counting workers (cs ++ (n ∷ [])) [] ≡ header-of (workers ∷ (cs ++ (n ∷ [])))
+    last-of n = rw (all-end natural, append-nil)
 
 -- ---- the counts in an array
 
@@ -112,44 +80,49 @@ module _ (workers i total : ℕ) (counts : List ℕ) (k : Counted workers i tota
     long = length-set counts i n ∙ k .long;
   }
 
-  module _ (text : List ℕ) (at : ℕ) (r : Number) (e : r ≡ number-at text at) where
-    pub counts-bad : r ≡ number.Bad → none ≡ counts-at workers front text at
+  module _ (text : List ℕ) (at : ℕ) where
+    abbrev by-count : Number → Option Numbered
+    by-count r =
+        at-number r none (λ n next last. pick (ltb i workers)
+        (pick last none (pick (ltb (most-requests - total) n) none (counts-at workers (take (i + 1) (set counts i n)) text next)))
+        (pick last (pick (ltb most-turns n) none (some (header-parts workers total counts n next))) none))
+
+    pub counts-is : (o : Option Numbered) → o ≡ by-count (number-at text at) → o ≡ counts-at workers front text at
     unfolding counts-at
-    counts-bad q = rw (number-bad workers front text at r e q)
+    counts-is o e = e ∙ sym (ap numbered (by-number text at (counting workers front) (λ n. counting workers (front ++ (n ∷ []))) (goes workers front)) ∙ by (number-at text at))
+      where
+        ending : (n next : ℕ) → numbered (given (header-of (workers ∷ (front ++ (n ∷ [])))) none (λ h. some (h, next))) ≡ by-count (number.At n next true)
+        ending n next =
+            elim (lt-or i workers) [
+              | inl l ↦ rw (lt-ltb i workers l, header-off workers front n [] (omega (arith, long)))
+              | inr l ↦ elim (lt-or most-turns n) [
+                | inl g ↦ rw (le-ltb i workers l, lt-ltb most-turns n g, header-late workers front n g)
+                | inr g ↦
+                    let s : i ≡ workers = omega (arith, k .within) in
+                    rw (le-ltb i workers l, le-ltb most-turns n g, header-made workers front n (k .one) (k .few) (long ∙ s) (omega (arith, k .summed, k .most)) g, long, sym (k .summed), s)
+              ]
+            ]
 
-    module _ (n next : ℕ) where
-      module _ (q : r ≡ number.Last n next) where
-        pub counts-short : i < workers → none ≡ counts-at workers front text at
-        unfolding counts-at
-        counts-short l = rw (number-last workers front text at r e n next q, header-off workers front n [] (omega (arith, long)))
+        going : (n next : ℕ) → numbered (words-at (counting workers (front ++ (n ∷ []))) text next) ≡ by-count (number.At n next false)
+        going n next =
+            elim (lt-or i workers) [
+              | inl l ↦ elim (lt-or (most-requests - total) n) [
+                | inl g ↦ rw (
+                  lt-ltb i workers l,
+                  lt-ltb (most-requests - total) n g,
+                  words-none text next (counting workers (front ++ (n ∷ []))) (λ w ws. joined workers front n (w ∷ ws) (λ ns. header-sum workers front n ns (omega (arith, long)) (omega (arith, k .summed, k .most)))),
+                )
+                | inr g ↦ rw (lt-ltb i workers l, le-ltb (most-requests - total) n g, longer n l)
+              ]
+              | inr l ↦ rw (le-ltb i workers l, words-none text next (counting workers (front ++ (n ∷ []))) (full workers (front ++ (n ∷ [])) (omega (arith, long, length-append front (n ∷ [])))))
+            ]
 
-        pub counts-late : most-turns < n → none ≡ counts-at workers front text at
-        unfolding counts-at
-        counts-late g = rw (number-last workers front text at r e n next q, header-late workers front n g)
-
-        pub counts-end : workers ≤ i → n ≤ most-turns → some (workers, (total, (record { counts = take workers counts; turns = n }, next))) ≡ counts-at workers front text at
-        unfolding counts-at
-        counts-end w t =
-            let s : i ≡ workers = omega (arith, k .within) in
-            rw (number-last workers front text at r e n next q, header-made workers front n (k .one) (k .few) (long ∙ s) (omega (arith, k .summed, k .most)) t, long, sym (k .summed), s)
-
-      module _ (q : r ≡ number.More n next) where
-        pub counts-above : i < workers → most-requests - total < n → none ≡ counts-at workers front text at
-        unfolding counts-at
-        counts-above l g =
-            rw (number-never workers front text at r e n next q (λ ns. header-sum workers front n ns (omega (arith, long)) (omega (arith, k .summed, k .most))))
-
-        pub counts-full : workers ≤ i → none ≡ counts-at workers front text at
-        unfolding counts-at
-        counts-full w =
-            rw (number-more workers front text at r e n next q)
-            (rw (words-none (counting workers (front ++ (n ∷ []))) text next (counting-full workers (front ++ (n ∷ [])) (omega (arith, long, length-append front (n ∷ []))))))
-
-        pub counts-on : (o : Option Numbered) → i < workers → o ≡ counts-at workers (take (i + 1) (set counts i n)) text next → o ≡ counts-at workers front text at
-        unfolding counts-at
-        counts-on o l d = d ∙ rw (longer n l, number-more workers front text at r e n next q)
+        by : (r : Number) → numbered (at-number r none (read-on text (λ n. counting workers (front ++ (n ∷ []))))) ≡ by-count r
+        by number.Bad = refl
+        by (number.At n next true) = rw (last-of workers front n) (ending n next)
+        by (number.At n next false) = going n next
 
 pub counted-none : (workers : ℕ) → 1 ≤ workers → workers ≤ 8 → Counted workers 0 0 (replicate 8 0)
 counted-none workers one few = record { one = one; few = few; within = omega arith; summed = sym sum-none; most = omega arith; long = refl }
 
-pub ruleset counts-cases = (counted-none, counted-on, counts-bad, counts-short, counts-late, counts-end, counts-above, counts-full, counts-on)
+pub ruleset counts-cases = (counted-none, counted-on, counts-is)

@@ -1,5 +1,6 @@
--- How a run reads on from the positions that a check gives: one request or one turn is read, and the others stand behind it.
+-- How a run reads on from the positions that a check gives: one request or one turn is read, and the others follow.
 use Prim.Native.Nat.{ℕ, zero, suc, _<_}
+use mathlib.Core.Bool.{Bool}
 use mathlib.Core.List.{List, [], _∷_}
 use mathlib.Core.Path.{_≡_, refl, ap, _∙_}
 use native.Mathlib.Omega.{arith}
@@ -9,8 +10,9 @@ use Rattle.catalogue.specs.Run.{shares}
 use Rattle.script.specs.Words.{number-at}
 use Rattle.script.specs.Lines.{request-at}
 use Rattle.script.specs.Shares.{at-request}
-use Rattle.script.specs.Turns.{turn-of, turn-at}
+use Rattle.script.specs.Turns.{turn-at}
 use Rattle.script.specs.Checks.{requests-at, shares-at, turns-from, script-in, Is-script}
+use Rattle.script.specs.declared.numbers.Number.the-variants.{At}
 use Rattle.script.specs.declared.checks.Checked.{Checked}
 
 module _ (text : List ℕ) where
@@ -26,9 +28,9 @@ module _ (text : List ℕ) where
   unfolding turns-from
   turns-none at = refl
 
-  pub turns-one : (turns at w next : ℕ) → turn-of (number-at text at) ≡ record { worker = w; next = next } → turns-from text (suc turns) at ≡ w ∷ turns-from text turns next
+  pub turns-one : (turns at w next : ℕ) (last : Bool) → number-at text at ≡ At w next last → turns-from text (suc turns) at ≡ w ∷ turns-from text turns next
   unfolding turns-from turn-at
-  turns-one turns at w next e = ap (λ t. t .worker ∷ turns-from text turns (t .next)) e
+  turns-one turns at w next last e = rw e
 
   -- a worker's requests stand from its start on
   share-of : (counts starts : List ℕ) (w : ℕ) → w < length counts → w < length starts → getD (shares-at text counts starts) w [] ≡ requests-at text (getD counts w 0) (getD starts w 0)

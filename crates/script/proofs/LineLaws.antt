@@ -1,19 +1,22 @@
--- A line is read word by word: its first word is the next one of the text, and what follows a space is read as a line again.
+-- A line is read word by word: its first word is the next one of the text.
+-- What follows a space is read as a line again.
 use Prim.Native.Nat.{ℕ, suc, _+_}
 use mathlib.Core.Bool.{Bool, true, false}
 use mathlib.Core.List.{List, [], _∷_}
+use mathlib.Core.Logic.{inl, inr}
 use mathlib.Core.Option.{Option, none, some}
-use mathlib.Core.Path.{_≡_, refl, sym, ap, _∙_}
+use mathlib.Core.Path.{_≡_, refl, ap, _∙_}
 use native.Mathlib.Omega.{arith}
+use lib.IntN.{ℤ}
 use lib.ListN.{length, drop}
 use lib.Seq.{drop-drop}
 use borrow.Author.Tests.{eq-eqb, ne-eqb}
 use Rattle.catalogue.specs.Tests.{pick, given}
-use Rattle.catalogue.specs.Script.{next-line, split, grow}
-use Rattle.laws.proofs.Picks.{clash}
-use Rattle.script.specs.Words.{Word, next-word, longer, behind, Item, tested, item-in, item-at}
+use Rattle.catalogue.specs.Script.{next-line, split, grow, natural, signed, key-fits}
+use Rattle.laws.proofs.Cases.{same?}
+use Rattle.digits.specs.Digits.{number-fits}
+use Rattle.script.specs.Words.{Word, next-word, longer, behind, Item, tested, item-in, item-at, as-number, number-at, at-number, as-key, key-at, at-key}
 use Rattle.script.specs.Lines.{line-in, words-at}
-use Rattle.script.proofs.Tools.{same-or}
 
 -- ---- kinds that read alike
 
@@ -57,111 +60,104 @@ first-word : {A : Type 0} (kind : List (List ℕ) → Option A) (at : ℕ) (t : 
 unfolding next-line next-word split
 first-word kind at [] = refl
 first-word kind at (b ∷ bs) =
-    same-or b 10
-    (λ e. rw (next-line, next-word, eq-eqb b 10 e))
-    (λ n. same-or b 32
-    (λ e. rw (next-line, next-word, ne-eqb b 10 n, eq-eqb b 32 e)
-    (line-before at b (λ l. kind (split l)) (next-line bs)
-    ∙ line-alike (λ l. kind (split (b ∷ l))) (λ l. kind ([] ∷ split l)) (λ l. ap kind (split-space b l e)) (at + 1) (next-line bs)))
-    (λ m. rw (next-line, next-word, ne-eqb b 10 n, ne-eqb b 32 m)
-    (line-before at b (λ l. kind (split l)) (next-line bs)
-    ∙ line-alike (λ l. kind (split (b ∷ l))) (λ l. kind (grow b (split l))) (λ l. ap kind (split-other b l m)) (at + 1) (next-line bs)
-    ∙ first-word (λ ws. kind (grow b ws)) (at + 1) bs
-    ∙ word-before at b kind bs (next-word bs))))
+    elim (same? b 10) [
+      | inl e ↦ rw (next-line, next-word, eq-eqb b 10 e)
+      | inr n ↦ elim (same? b 32) [
+        | inl e ↦ rw (next-line, next-word, ne-eqb b 10 n, eq-eqb b 32 e)
+            (line-before at b (λ l. kind (split l)) (next-line bs)
+            ∙ line-alike (λ l. kind (split (b ∷ l))) (λ l. kind ([] ∷ split l)) (λ l. ap kind (split-space b l e)) (at + 1) (next-line bs))
+        | inr m ↦ rw (next-line, next-word, ne-eqb b 10 n, ne-eqb b 32 m)
+            (line-before at b (λ l. kind (split l)) (next-line bs)
+            ∙ line-alike (λ l. kind (split (b ∷ l))) (λ l. kind (grow b (split l))) (λ l. ap kind (split-other b l m)) (at + 1) (next-line bs)
+            ∙ first-word (λ ws. kind (grow b ws)) (at + 1) bs
+            ∙ word-before at b kind bs (next-word bs))
+      ]
+    ]
 
--- a first word that the kind has not
-module _ {A : Type 0} (kind : List (List ℕ) → Option A) (text : List ℕ) (at : ℕ) (w : Word) where
-  word-none-of : next-word (drop at text) ≡ some w → ((ws : List (List ℕ)) → kind (w .bytes ∷ ws) ≡ none) → words-at kind text at ≡ none
-  word-none-of q never = first-word kind at (drop at text) ∙ rw q (either (w .last))
+-- ---- a kind goes by its first word
+
+module _ {A : Type 0} (text : List ℕ) (at : ℕ) where
+  -- what follows a first word, as a kind
+  abbrev behind-word : Word → (List (List ℕ) → Option A) → Option (A × ℕ)
+  behind-word w rest = pick (w .last) (given (rest []) none (λ a. some (a, behind at (w .bytes)))) (words-at rest text (behind at (w .bytes)))
+
+  rest-alike : (w : Word) (rest rest′ : List (List ℕ) → Option A) → ((ws : List (List ℕ)) → rest ws ≡ rest′ ws) → behind-word w rest ≡ behind-word w rest′
+  rest-alike w rest rest′ same =
+      rw (same []) (ap (λ o. pick (w .last) (given (rest′ []) none (λ a. some (a, behind at (w .bytes)))) o)
+      (line-alike (λ l. rest (split l)) (λ l. rest′ (split l)) (λ l. same (split l)) (behind at (w .bytes)) (next-line (drop (behind at (w .bytes)) text))))
+
+  rest-none : (w : Word) → behind-word w (λ ws. none) ≡ none
+  rest-none w = elim (w .last) as (λ t. pick t none (words-at (λ ws. none) text (behind at (w .bytes))) ≡ none) [
+    | true ↦ refl
+    | false ↦ lined (next-line (drop (behind at (w .bytes)) text))
+  ]
     where
-      lined : (o : Option (List ℕ × List ℕ)) → line-in (λ l. kind (w .bytes ∷ split l)) (behind at (w .bytes)) o ≡ none
+      lined : (o : Option (List ℕ × List ℕ)) → line-in {A = A} (λ l. none) (behind at (w .bytes)) o ≡ none
       lined none = refl
-      lined (some r) = rw (never (split (r .0)))
+      lined (some r) = refl
 
-      either : (last : Bool) → pick last (given (kind (w .bytes ∷ [])) none (λ a. some (a, behind at (w .bytes))))
-          (line-in (λ l. kind (w .bytes ∷ split l)) (behind at (w .bytes)) (next-line (drop (suc (length (w .bytes))) (drop at text)))) ≡ none
-      either true = rw (never [])
-      either false = lined (next-line (drop (suc (length (w .bytes))) (drop at text)))
-
--- a kind that has no first word
-pub words-none : {A : Type 0} (kind : List (List ℕ) → Option A) (text : List ℕ) (at : ℕ) → ((w : List ℕ) (ws : List (List ℕ)) → kind (w ∷ ws) ≡ none)
-    → words-at kind text at ≡ none
-words-none kind text at never = go (next-word (drop at text)) refl
-  where
-    go : (o : Option Word) → next-word (drop at text) ≡ o → words-at kind text at ≡ none
-    go none q = first-word kind at (drop at text) ∙ rw q
-    go (some w) q = word-none-of kind text at w q (never (w .bytes))
-
--- ---- a word that is read, and one that is not
-
--- where an item was read
-record Found {X : Type 0} (reading : List ℕ → Option X) (fits : X → Bool) (text : List ℕ) (at : ℕ) (i : Item X) : Type 0 where
-  pub bytes : List ℕ
-  pub word : next-word (drop at text) ≡ some (record { bytes = bytes; last = i .last })
-  pub reads : reading bytes ≡ some (i .value)
-  pub fit : fits (i .value) ≡ true
-  pub follows : behind at bytes ≡ i .next
-
-module _ {X : Type 0} (reading : List ℕ → Option X) (fits : X → Bool) (text : List ℕ) (at : ℕ) where
-  found : (i : Item X) → item-at reading fits text at ≡ some i → Found reading fits text at i
-  found i e = word (next-word (drop at text)) refl e
+  by-first : (kind : List (List ℕ) → Option A) → words-at kind text at ≡ given (next-word (drop at text)) none (λ w. behind-word w (λ ws. kind (w .bytes ∷ ws)))
+  by-first kind = first-word kind at (drop at text) ∙ by (next-word (drop at text))
     where
-      fitting : (w : Word) (x : X) → next-word (drop at text) ≡ some w → reading (w .bytes) ≡ some x → (t : Bool) → fits x ≡ t
-          → pick t (some (record { value = x; last = w .last; next = behind at (w .bytes) })) none ≡ some i → Found reading fits text at i
-      fitting w x q r true t e =
-          let f : record { value = x; last = w .last; next = behind at (w .bytes) } ≡ i = cc in
-          record {
-            bytes = w .bytes;
-            word = q ∙ ap (λ t. some (record { bytes = w .bytes; last = t })) (ap (λ j. j .last) f);
-            reads = r ∙ ap (λ j. some (j .value)) f;
-            fit = ap (λ j. fits (j .value)) (sym f) ∙ t;
-            follows = ap (λ j. j .next) f;
-          }
-      fitting w x q r false t e = clash (cc)
+      by : (o : Option Word) → by-word kind at (drop at text) o ≡ given o none (λ w. behind-word w (λ ws. kind (w .bytes ∷ ws)))
+      by none = refl
+      by (some w) = rw (drop-drop (suc (length (w .bytes))) at text)
 
-      value : (w : Word) → next-word (drop at text) ≡ some w → (o : Option X) → reading (w .bytes) ≡ o
-          → tested fits (w .last) (behind at (w .bytes)) o ≡ some i → Found reading fits text at i
-      value w q none r e = clash (cc)
-      value w q (some x) r e = fitting w x q r (fits x) refl e
-
-      word : (o : Option Word) → next-word (drop at text) ≡ o → item-in reading fits at o ≡ some i → Found reading fits text at i
-      word none q e = clash (cc)
-      word (some w) q e = value w q (reading (w .bytes)) refl e
-
-  -- what is not read is no word of its reading, or one that does not fit
-  pub not-found : {A : Type 0} (kind : List (List ℕ) → Option A) → item-at reading fits text at ≡ none
-      → ((w : List ℕ) (ws : List (List ℕ)) → reading w ≡ none → kind (w ∷ ws) ≡ none)
-      → ((w : List ℕ) (x : X) (ws : List (List ℕ)) → reading w ≡ some x → fits x ≡ false → kind (w ∷ ws) ≡ none)
-      → words-at kind text at ≡ none
-  not-found kind e unread unfit = word (next-word (drop at text)) refl e
+  -- a kind that has no first word
+  pub words-none : (kind : List (List ℕ) → Option A) → ((w : List ℕ) (ws : List (List ℕ)) → kind (w ∷ ws) ≡ none) → words-at kind text at ≡ none
+  words-none kind never = by-first kind ∙ by (next-word (drop at text))
     where
-      value : (w : Word) → next-word (drop at text) ≡ some w → (o : Option X) → reading (w .bytes) ≡ o
-          → tested fits (w .last) (behind at (w .bytes)) o ≡ none → words-at kind text at ≡ none
-      value w q none r e = word-none-of kind text at w q (λ ws. unread (w .bytes) ws r)
-      value w q (some x) r e =
-          (elim (fits x) as (λ t. fits x ≡ t → pick {A = Option (Item X)} t (some (record { value = x; last = w .last; next = behind at (w .bytes) })) none ≡ none → words-at kind text at ≡ none) [
-            | true ↦ λ t e. clash (cc)
-            | false ↦ λ t e. word-none-of kind text at w q (λ ws. unfit (w .bytes) x ws r t)
-          ]) refl e
+      by : (o : Option Word) → given o none (λ w. behind-word w (λ ws. kind (w .bytes ∷ ws))) ≡ none
+      by none = refl
+      by (some w) = rest-alike w (λ ws. kind (w .bytes ∷ ws)) (λ ws. none) (never (w .bytes)) ∙ rest-none w
 
-      word : (o : Option Word) → next-word (drop at text) ≡ o → item-in reading fits at o ≡ none → words-at kind text at ≡ none
-      word none q e = first-word kind at (drop at text) ∙ rw q
-      word (some w) q e = value w q (reading (w .bytes)) refl e
+  pub words-pick : (t : Bool) (kind : List (List ℕ) → Option A) → words-at (λ ws. pick t (kind ws) none) text at ≡ pick t (words-at kind text at) none
+  words-pick true kind = refl
+  words-pick false kind = words-none (λ ws. none) (λ w ws. refl)
 
-module _ {A : Type 0} (kind : List (List ℕ) → Option A) (text : List ℕ) (at : ℕ) {X : Type 0} (reading : List ℕ → Option X) (fits : X → Bool) (x : X) (next : ℕ) where
-  -- the item is its line's last
-  pub item-last : item-at reading fits text at ≡ some (record { value = x; last = true; next = next })
-      → (o : Option A) → ((w : List ℕ) → reading w ≡ some x → fits x ≡ true → kind (w ∷ []) ≡ o) → words-at kind text at ≡ given o none (λ a. some (a, next))
-  item-last e o same =
-      let f = found reading fits text at _ e in
-      first-word kind at (drop at text) ∙ rw (f .word, same (f .bytes) (f .reads) (f .fit), f .follows)
+-- ---- a kind whose first word is read and tested
 
-  -- more follows
-  pub item-more : item-at reading fits text at ≡ some (record { value = x; last = false; next = next })
-      → (kind′ : List (List ℕ) → Option A) → ((w : List ℕ) → reading w ≡ some x → fits x ≡ true → (ws : List (List ℕ)) → kind (w ∷ ws) ≡ kind′ ws)
-      → words-at kind text at ≡ words-at kind′ text next
-  item-more e kind′ same =
-      let f = found reading fits text at _ e in
-      first-word kind at (drop at text)
-      ∙ rw (f .word, drop-drop (suc (length (f .bytes))) at text, f .follows)
-      (line-alike (λ l. kind (f .bytes ∷ split l)) (λ l. kind′ (split l)) (λ l. same (f .bytes) (f .reads) (f .fit) (split l)) next (next-line (drop next text)))
+abbrev pub Goes : {A X : Type 0} → (List ℕ → Option X) → (X → Bool) → (List (List ℕ) → Option A) → (X → List (List ℕ) → Option A) → Type 0
+Goes reading fits kind rest = (w : List ℕ) (ws : List (List ℕ)) → kind (w ∷ ws) ≡ given (reading w) none (λ x. pick (fits x) (rest x ws) none)
+
+abbrev pub read-on : {A X : Type 0} → List ℕ → (X → List (List ℕ) → Option A) → X → ℕ → Bool → Option (A × ℕ)
+read-on text rest x next last = pick last (given (rest x []) none (λ a. some (a, next))) (words-at (rest x) text next)
+
+module _ {A : Type 0} (text : List ℕ) (at : ℕ) (kind : List (List ℕ) → Option A) where
+  module _ {X : Type 0} (reading : List ℕ → Option X) (fits : X → Bool) (rest : X → List (List ℕ) → Option A) where
+    abbrev from : Option (Item X) → Option (A × ℕ)
+    from none = none
+    from (some i) = read-on text rest (i .value) (i .next) (i .last)
+
+    by-item : Goes reading fits kind rest → words-at kind text at ≡ from (item-at reading fits text at)
+    by-item goes = by-first text at kind ∙ by (next-word (drop at text))
+      where
+        tried : (w : Word) (o : Option X) → behind-word text at w (λ ws. given o none (λ x. pick (fits x) (rest x ws) none)) ≡ from (tested fits (w .last) (behind at (w .bytes)) o)
+        tried w none = rest-none text at w
+        tried w (some x) =
+            elim (fits x) as (λ t. behind-word text at w (λ ws. pick t (rest x ws) none) ≡ from (pick t (some (record { value = x; last = w .last; next = behind at (w .bytes) })) none)) [
+              | true ↦ refl
+              | false ↦ rest-none text at w
+            ]
+
+        by : (o : Option Word) → given o none (λ w. behind-word text at w (λ ws. kind (w .bytes ∷ ws))) ≡ from (item-in reading fits at o)
+        by none = refl
+        by (some w) =
+            rest-alike text at w (λ ws. kind (w .bytes ∷ ws)) (λ ws. given (reading (w .bytes)) none (λ x. pick (fits x) (rest x ws) none)) (goes (w .bytes))
+            ∙ tried w (reading (w .bytes))
+
+  pub by-number : (rest : ℕ → List (List ℕ) → Option A) → Goes natural number-fits kind rest → words-at kind text at ≡ at-number (number-at text at) none (read-on text rest)
+  unfolding number-at
+  by-number rest goes = by-item natural number-fits rest goes ∙ by (item-at natural number-fits text at)
+    where
+      by : (o : Option (Item ℕ)) → from natural number-fits rest o ≡ at-number (as-number o) none (read-on text rest)
+      by none = refl
+      by (some i) = refl
+
+  pub by-key : (rest : ℤ → List (List ℕ) → Option A) → Goes signed key-fits kind rest → words-at kind text at ≡ at-key (key-at text at) none (read-on text rest)
+  unfolding key-at
+  by-key rest goes = by-item signed key-fits rest goes ∙ by (item-at signed key-fits text at)
+    where
+      by : (o : Option (Item ℤ)) → from signed key-fits rest o ≡ at-key (as-key o) none (read-on text rest)
+      by none = refl
+      by (some i) = refl

@@ -1,189 +1,194 @@
--- A number is read byte by byte: each byte at a position decides, or leaves the same question for the next position.
-use Prim.Native.Nat.{ℕ, _+_, _*_, _-_, _≤_, _<_}
-use mathlib.Core.Bool.{true, false}
-use mathlib.Core.List.{List, [], _∷_}
+-- A line's number or key is what the reader of digits finds there, with a space or the line's end after it.
+use Prim.Native.Nat.{ℕ, suc, _+_}
+use mathlib.Core.Bool.{Bool, true, false}
+use mathlib.Core.List.{List, [], _∷_, _++_, append-nil}
+use mathlib.Core.Logic.{inl, inr}
 use mathlib.Core.Option.{Option, none, some}
 use mathlib.Core.Path.{_≡_, refl, sym, ap, _∙_}
 use native.Mathlib.Omega.{arith}
-use native.Mathlib.Numerals.{add-one}
-use native.Mathlib.Nat.{zero-add}
-use lib.Dec.{leb, lit≤}
+use mir.Syntax.{w32}
+use mir.Val.{SFits, ofZ, toZ}
+use mir.Facts.{toZ-ofZ}
+use lib.IntN.{ℤ, pos, negsuc}
 use lib.ListN.{length, getD, drop, drop-of-length-le}
-use lib.Seq.{drop-cons}
-use borrow.Author.Tests.{le-leb, lt-leb, eq-eqb, ne-eqb}
-use borrow.Author.Needs.{zero≤}
-use Rattle.catalogue.specs.Tests.{pick}
-use Rattle.laws.proofs.Picks.{clash, pick-both}
-use Rattle.catalogue.specs.Script.{value, natural}
-use Rattle.script.specs.Words.{Word, next-word, longer, behind, tested, item-in, as-number, most-number, number-fits, number-by, number-at, rest-at, zero-at, none-left}
+use lib.Seq.{drop-cons, drop-drop}
+use lib.Signed.{ltZ}
+use borrow.Author.Needs.{sfits-of}
+use borrow.Author.Tests.{le-leb, lt-leb, lt-ltb, le-ltb, eq-eqb, ne-eqb}
+use Rattle.catalogue.specs.Tests.{pick, given}
+use Rattle.catalogue.specs.Numbers.{greatest}
+use Rattle.catalogue.specs.Script.{natural, signed, key-fits}
+use Rattle.laws.proofs.Ways.{on-true, on-false}
+use Rattle.laws.proofs.Cases.{same?, lt-or}
+use Rattle.digits.specs.Digits.{digits-of, signed-of, piece-in, most-number, number-fits, signed-fits, as-digits, digits-at, at-digits, as-signed, signed-at, at-signed}
+use Rattle.digits.proofs.Values.{none-or, digit-or}
+use Rattle.digits.proofs.Signs.{cut-minus, cut-plain}
+use Rattle.digits.proofs.Stops.{number-stops, signed-stops}
+use Rattle.script.proofs.Tools.{pick-through, pick-in}
+use Rattle.script.proofs.Taken.{digits-none, digits-taken, signed-none, signed-taken, end-none, end-taken}
+use Rattle.script.specs.Words.{Word, next-word, longer, behind, Item, tested, item-in, item-at, as-number, number-at, as-key, key-at, end-at, at-end}
 use Rattle.script.specs.declared.numbers.Number.{Number}
-use Rattle.script.specs.declared.numbers.Number.the-variants.{Bad, More, Last}
-use Rattle.script.proofs.Tools.{same-or}
+use Rattle.script.specs.declared.numbers.Number.the-variants as number
+use Rattle.script.specs.declared.numbers.End.{End}
+use Rattle.script.specs.declared.numbers.End.the-variants.{None, At}
+use Rattle.script.specs.declared.keys.Key.{Key}
+use Rattle.script.specs.declared.keys.Key.the-variants as key
 
--- ---- one byte of a word
+-- ---- a word begins with its digits
+
+abbrev led : List ℕ → Option Word → Option Word
+led w none = none
+led w (some v) = some (record { bytes = w ++ v .bytes; last = v .last })
+
+led-none : (o : Option Word) → led [] o ≡ o
+led-none none = refl
+led-none (some v) = refl
+
+led-longer : (b : ℕ) (w : List ℕ) (o : Option Word) → longer b (led w o) ≡ led (b ∷ w) o
+led-longer b w none = refl
+led-longer b w (some v) = refl
+
+word-longer : (b : ℕ) (bs : List ℕ) → (b ≡ 10 → ⊥) → (b ≡ 32 → ⊥) → next-word (b ∷ bs) ≡ longer b (next-word bs)
+unfolding next-word
+word-longer b bs n m = rw (next-word, ne-eqb b 10 n, ne-eqb b 32 m)
+
+digits-led : (t : List ℕ) → next-word t ≡ led (digits-of t) (next-word (drop (length (digits-of t)) t))
+unfolding digits-of
+digits-led [] = sym (led-none (next-word []))
+digits-led (b ∷ bs) =
+    elim (digit-or b) [
+      | inl d ↦ rw (le-leb 48 b (d .0), le-leb b 57 (d .1), word-longer b bs (omega arith) (omega arith))
+          (ap (longer b) (digits-led bs) ∙ led-longer b (digits-of bs) (next-word (drop (length (digits-of bs)) bs)))
+      | inr d ↦ rw d (sym (led-none (next-word (b ∷ bs))))
+    ]
+
+signed-led : (t : List ℕ) → next-word t ≡ led (signed-of t) (next-word (drop (length (signed-of t)) t))
+unfolding signed-of
+signed-led [] = sym (led-none (next-word []))
+signed-led (b ∷ bs) =
+    elim (same? b 45) [
+      | inl e ↦ rw (cut-minus b bs e, word-longer b bs (omega arith) (omega arith))
+          (ap (longer b) (digits-led bs) ∙ led-longer b (digits-of bs) (next-word (drop (length (digits-of bs)) bs)))
+      | inr n ↦ rw (cut-plain b bs n) (digits-led (b ∷ bs))
+    ]
+
+-- ---- what follows a piece
+
+end-cases : (text : List ℕ) (at : ℕ) (P : Option Word → End → Type 0) → P none None → ((last : Bool) → P (some (record { bytes = []; last = last })) (At (at + 1) last))
+    → ((b : ℕ) (bs : List ℕ) → drop at text ≡ b ∷ bs → P (longer b (next-word bs)) None) → P (next-word (drop at text)) (end-at text at)
+unfolding next-word end-at
+end-cases text at P missing ended other =
+    elim (lt-or at (length text)) [
+      | inl h ↦ rw (drop-cons text at 0 h, next-word, lt-leb (length text) at h)
+          (elim (same? (getD text at 0) 10) [
+            | inl e ↦ rw (eq-eqb (getD text at 0) 10 e) (ended true)
+            | inr n ↦ elim (same? (getD text at 0) 32) [
+              | inl e ↦ rw (ne-eqb (getD text at 0) 10 n, eq-eqb (getD text at 0) 32 e) (ended false)
+              | inr m ↦ rw (ne-eqb (getD text at 0) 10 n, ne-eqb (getD text at 0) 32 m) (other (getD text at 0) (drop (suc at) text) (drop-cons text at 0 h))
+            ]
+          ])
+      | inr h ↦ rw (drop-of-length-le text {i = at} h, le-leb (length text) at h) missing
+    ]
+
+-- ---- by any reading of pieces
+
+module _ {X : Type 0} (reading : List ℕ → Option X) (whole more fits : X → Bool) (both : (x : X) → fits x ≡ pick (whole x) (more x) false)
+    (cut : List ℕ → List ℕ) (leads : (t : List ℕ) → next-word t ≡ led (cut t) (next-word (drop (length (cut t)) t)))
+    (stops : (b : ℕ) (bs v t : List ℕ) → drop (length (cut t)) t ≡ b ∷ bs → reading (cut t ++ (b ∷ v)) ≡ none) (text : List ℕ) (at : ℕ) where
+  abbrev piece : List ℕ
+  piece = cut (drop at text)
+
+  abbrev ended : End → X → Option (Item X)
+  ended e x = at-end e none (λ next last. pick (more x) (some (record { value = x; last = last; next = next })) none)
+
+  nothing : (o : Option X) → none ≡ given o none (λ x. pick (whole x) (ended None x) none)
+  nothing none = refl
+  nothing (some x) = sym (none-or (whole x) none refl)
+
+  judged : (last : Bool) (o : Option X) → tested fits last (at + length piece + 1) o ≡ given o none (λ x. pick (whole x) (ended (At (at + length piece + 1) last) x) none)
+  judged last none = refl
+  judged last (some x) = rw (both x) (pick-in (whole x) (more x) (some (record { value = x; last = last; next = at + length piece + 1 })))
+
+  followed : (b : ℕ) (bs : List ℕ) → drop (length piece) (drop at text) ≡ b ∷ bs → (o : Option Word)
+      → item-in reading fits at (led piece (longer b o)) ≡ none
+  followed b bs e none = refl
+  followed b bs e (some v) = rw (stops b bs (v .bytes) (drop at text) e)
+
+  pieced : (end : ℕ) (o : Option X)
+      → given o none (λ x. pick (whole x) (ended (end-at text end) x) none) ≡ given {A = X × ℕ} (given o none (λ x. pick (whole x) (some (x, end)) none)) none (λ p. ended (end-at text (p .1)) (p .0))
+  pieced end none = refl
+  pieced end (some x) = sym (pick-through (λ o. given {A = X × ℕ} o none (λ p. ended (end-at text (p .1)) (p .0))) (whole x) (some (x, end)) none)
+
+  item-ended : item-at reading fits text at ≡ given (piece-in reading whole at piece) none (λ p. ended (end-at text (p .1)) (p .0))
+  item-ended =
+      rw (leads (drop at text), drop-drop (length piece) at text)
+      (end-cases text (at + length piece) (λ o e. item-in reading fits at (led piece o) ≡ given (reading piece) none (λ x. pick (whole x) (ended e x) none))
+      (nothing (reading piece))
+      (λ last. let e : behind at piece ≡ at + length piece + 1 = omega arith in rw (append-nil, e) (judged last (reading piece)))
+      (λ b bs e. followed b bs (drop-drop (length piece) at text ∙ e) (next-word bs) ∙ nothing (reading piece)))
+      ∙ pieced (at + length piece) (reading piece)
+
+-- ---- numbers, and keys that are not reserved
 
 module _ (text : List ℕ) (at : ℕ) where
-  pub word-none : length text ≤ at → next-word (drop at text) ≡ none
-  unfolding next-word
-  word-none h = rw (drop-of-length-le text {i = at} h)
+  abbrev numbered : ℕ → End → Number
+  numbered n e = at-end e number.Bad (λ next last. number.At n next last)
 
-  module _ (h : at < length text) where
-    pub word-end : getD text at 0 ≡ 10 → next-word (drop at text) ≡ some (record { bytes = []; last = true })
-    unfolding next-word
-    word-end e = rw (drop-cons text at 0 h, next-word, eq-eqb (getD text at 0) 10 e)
+  pub number-is : (r : Number) → r ≡ at-digits (digits-at text at) number.Bad (λ n end. numbered n (end-at text end)) → r ≡ number-at text at
+  unfolding number-at digits-at
+  number-is r e =
+      e ∙ rw (item-ended natural number-fits (λ n. true) number-fits same digits-of digits-led number-stops text at)
+      (by (piece-in natural number-fits at (digits-of (drop at text))))
+    where
+      same : (n : ℕ) → number-fits n ≡ pick (number-fits n) true false
+      same n = elim (number-fits n) as (λ t. t ≡ pick t true false) [ true ↦ refl | false ↦ refl ]
 
-    module _ (n : getD text at 0 ≡ 10 → ⊥) where
-      pub word-space : getD text at 0 ≡ 32 → next-word (drop at text) ≡ some (record { bytes = []; last = false })
-      unfolding next-word
-      word-space e = rw (drop-cons text at 0 h, next-word, ne-eqb (getD text at 0) 10 n, eq-eqb (getD text at 0) 32 e)
+      followed-by : (n : ℕ) (e : End) → numbered n e ≡ as-number (at-end e none (λ next last. some (record { value = n; last = last; next = next })))
+      followed-by n None = refl
+      followed-by n (At next last) = refl
 
-      pub word-more : (getD text at 0 ≡ 32 → ⊥)
-          → next-word (drop at text) ≡ longer (getD text at 0) (next-word (drop (at + 1) text))
-      unfolding next-word
-      word-more m = rw (add-one, drop-cons text at 0 h, next-word, ne-eqb (getD text at 0) 10 n, ne-eqb (getD text at 0) 32 m)
+      by : (o : Option (ℕ × ℕ)) → at-digits (as-digits o) number.Bad (λ n end. numbered n (end-at text end))
+          ≡ as-number (given o none (λ p. at-end (end-at text (p .1)) none (λ next last. some (record { value = p .0; last = last; next = next }))))
+      by none = refl
+      by (some p) = followed-by (p .0) (end-at text (p .1))
 
--- ---- one byte of a number, by any reading of words
+  abbrev unreserved : ℤ → End → Key
+  unreserved k e = at-end e key.Bad (λ next last. pick (ltZ k greatest) (key.At k next last) key.Bad)
 
-module _ (reading : List ℕ → Option ℕ) (text : List ℕ) (at : ℕ) where
-  pub by-none : length text ≤ at → Bad ≡ number-by reading text at
-  by-none h = rw (word-none text at h)
+  pub key-is : (r : Key) → r ≡ at-signed (signed-at text at) key.Bad (λ k end. unreserved k (end-at text end)) → r ≡ key-at text at
+  unfolding key-at signed-at
+  key-is r e =
+      e ∙ rw (item-ended signed signed-fits (λ k. ltZ k greatest) key-fits both-fit signed-of signed-led signed-stops text at)
+      (by (piece-in signed signed-fits at (signed-of (drop at text))))
+    where
+      both-fit : (k : ℤ) → key-fits k ≡ pick (signed-fits k) (ltZ k greatest) false
+      both-fit (pos n) =
+          elim (lt-or n most-number) [
+            | inl l ↦ rw (lt-ltb n most-number l, le-leb n most-number (omega arith))
+            | inr l ↦ rw (le-ltb n most-number l) (elim (number-fits n) as (λ t. false ≡ pick t false false) [ true ↦ refl | false ↦ refl ])
+          ]
+      both-fit (negsuc n) = refl
 
-  module _ (h : at < length text) where
-    pub by-end : (n : ℕ) → reading [] ≡ some n → n ≤ most-number → getD text at 0 ≡ 10 → Last n (at + 1) ≡ number-by reading text at
-    by-end n r l e = rw (word-end text at h e, r, le-leb n most-number l)
+      followed-by : (k : ℤ) (e : End) → unreserved k e ≡ as-key (at-end e none (λ next last. pick (ltZ k greatest) (some (record { value = k; last = last; next = next })) none))
+      followed-by k None = refl
+      followed-by k (At next last) = sym (pick-through as-key (ltZ k greatest) (some (record { value = k; last = last; next = next })) none)
 
-    module _ (n : getD text at 0 ≡ 10 → ⊥) where
-      pub by-space : (n : ℕ) → reading [] ≡ some n → n ≤ most-number → getD text at 0 ≡ 32 → More n (at + 1) ≡ number-by reading text at
-      by-space m r l e = rw (word-space text at h n e, r, le-leb m most-number l)
+      by : (o : Option (ℤ × ℕ)) → at-signed (as-signed o) key.Bad (λ k end. unreserved k (end-at text end))
+          ≡ as-key (given o none (λ p. at-end (end-at text (p .1)) none (λ next last. pick (ltZ (p .0) greatest) (some (record { value = p .0; last = last; next = next })) none)))
+      by none = refl
+      by (some p) = followed-by (p .0) (end-at text (p .1))
 
-      module _ (m : getD text at 0 ≡ 32 → ⊥) where
-        pub by-more : (reading′ : List ℕ → Option ℕ) → ((bs : List ℕ) → reading (getD text at 0 ∷ bs) ≡ reading′ bs)
-            → number-by reading′ text (at + 1) ≡ number-by reading text at
-        by-more reading′ same = rw (word-more text at h n m) (through (next-word (drop (at + 1) text)))
-          where
-            through : (o : Option Word) → as-number (item-in reading′ number-fits (at + 1) o) ≡ as-number (item-in reading number-fits at (longer (getD text at 0) o))
-            through none = refl
-            through (some w) =
-                let e : behind (at + 1) (w .bytes) ≡ behind at (getD text at 0 ∷ w .bytes) = omega arith in
-                rw (same (w .bytes), e)
+-- a key is compared and passed on through its bits
+module _ (k : ℤ) where
+  pub key-below : (x a b : Key) → ltZ (toZ w32 (ofZ w32 k)) greatest ≡ true → SFits w32 k → x ≡ a → x ≡ pick (ltZ k greatest) a b
+  key-below x a b e h q = on-true x (ltZ k greatest) a b (rw (toZ-ofZ h) at e) q
 
-        pub by-bad : ((bs : List ℕ) (n : ℕ) → reading (getD text at 0 ∷ bs) ≡ some n → most-number < n) → Bad ≡ number-by reading text at
-        by-bad above = rw (word-more text at h n m) (through (next-word (drop (at + 1) text)))
-          where
-            reads : (w : Word) (o : Option ℕ) → reading (getD text at 0 ∷ w .bytes) ≡ o
-                → Bad ≡ as-number (tested number-fits (w .last) (behind at (getD text at 0 ∷ w .bytes)) o)
-            reads w none e = refl
-            reads w (some n) e = rw (lt-leb n most-number (above (w .bytes) n e))
+  pub key-reserved : (x a b : Key) → ltZ (toZ w32 (ofZ w32 k)) greatest ≡ false → SFits w32 k → x ≡ b → x ≡ pick (ltZ k greatest) a b
+  key-reserved x a b e h q = on-false x (ltZ k greatest) a b (rw (toZ-ofZ h) at e) q
 
-            through : (o : Option Word) → Bad ≡ as-number (item-in reading number-fits at (longer (getD text at 0) o))
-            through none = refl
-            through (some w) = reads w (reading (getD text at 0 ∷ w .bytes)) refl
+  pub key-same : (next : ℕ) (last : Bool) → SFits w32 k → key.At (toZ w32 (ofZ w32 k)) next last ≡ key.At k next last
+  key-same next last h = rw (toZ-ofZ h)
 
--- ---- the value of digits
+pub ruleset number-cases = (refl, digits-none, digits-taken, end-none, end-taken, number-is)
 
-pub value-digit : (sum b : ℕ) (bs : List ℕ) → 48 ≤ b → b ≤ 57 → value sum (b ∷ bs) ≡ value (10 * sum + (b - 48)) bs
-unfolding value
-value-digit sum b bs l u = rw (value, le-leb 48 b l, le-leb b 57 u)
-
-pub value-low : (sum b : ℕ) (bs : List ℕ) → b < 48 → value sum (b ∷ bs) ≡ none
-unfolding value
-value-low sum b bs l = rw (value, lt-leb 48 b l)
-
-pub value-high : (sum b : ℕ) (bs : List ℕ) → 57 < b → value sum (b ∷ bs) ≡ none
-unfolding value
-value-high sum b bs u = rw (value, le-leb 48 b (omega arith), lt-leb b 57 u)
-
--- digits only raise it
-pub value-above : (bs : List ℕ) (sum n : ℕ) → value sum bs ≡ some n → sum ≤ n
-unfolding value
-value-above [] sum n e = omega (arith, some-is e)
-  where
-    some-is : some sum ≡ some n → sum ≡ n
-    some-is e = cc
-value-above (b ∷ bs) sum n e =
-    (pick-both (λ o. o ≡ some n → sum ≤ n) (leb 48 b) (pick (leb b 57) (value (10 * sum + (b - 48)) bs) none) none
-    (λ l. pick-both (λ o. o ≡ some n → sum ≤ n) (leb b 57) (value (10 * sum + (b - 48)) bs) none
-    (λ u q. omega (arith, value-above bs (10 * sum + (b - 48)) n q)) (λ u q. clash (cc)))
-    (λ l q. clash (cc))) e
-
--- ---- what the three functions ask, way by way
-
-pub ruleset bytes = (by-none, by-end, by-space)
-
--- the value of no more digits is that of those before
-pub value-end : (sum : ℕ) → value sum [] ≡ some sum
-unfolding value
-value-end sum = refl
-
-pub natural-low : (b : ℕ) (bs : List ℕ) → b < 48 → natural (b ∷ bs) ≡ none
-natural-low b [] l = value-low 0 b [] l
-natural-low b (c ∷ cs) l = rw (ne-eqb b 48 (omega arith)) (value-low 0 b (c ∷ cs) l)
-
-pub natural-high : (b : ℕ) (bs : List ℕ) → 57 < b → natural (b ∷ bs) ≡ none
-natural-high b [] u = value-high 0 b [] u
-natural-high b (c ∷ cs) u = rw (ne-eqb b 48 (omega arith)) (value-high 0 b (c ∷ cs) u)
-
-pub natural-zero : (b : ℕ) (bs : List ℕ) → b ≡ 48 → natural (b ∷ bs) ≡ none-left bs
-unfolding value
-natural-zero b [] z = rw z
-natural-zero b (c ∷ cs) z = rw (eq-eqb b 48 z)
-
-pub natural-digit : (b : ℕ) (bs : List ℕ) → 48 ≤ b → b ≤ 57 → (b ≡ 48 → ⊥) → natural (b ∷ bs) ≡ value (b - 48) bs
-natural-digit b [] l u z = value-digit 0 b [] l u ∙ ap (λ n. value n []) (zero-add (b - 48))
-natural-digit b (c ∷ cs) l u z = rw (ne-eqb b 48 z) (value-digit 0 b (c ∷ cs) l u ∙ ap (λ n. value n (c ∷ cs)) (zero-add (b - 48)))
-
-module _ (text : List ℕ) (at : ℕ) (h : at < length text) where
-  module _ (n : getD text at 0 ≡ 10 → ⊥) (m : getD text at 0 ≡ 32 → ⊥) where
-    pub zero-bad : Bad ≡ zero-at text at
-    unfolding zero-at
-    zero-bad = by-bad none-left text at h n m (λ bs k e. clash (cc))
-
-    module _ (sum : ℕ) where
-      pub rest-low : getD text at 0 < 48 → Bad ≡ rest-at text at sum
-      unfolding rest-at
-      rest-low l = by-bad (value sum) text at h n m (λ bs k e. clash (cc (value-low sum (getD text at 0) bs l)))
-
-      pub rest-high : 57 < getD text at 0 → Bad ≡ rest-at text at sum
-      unfolding rest-at
-      rest-high u = by-bad (value sum) text at h n m (λ bs k e. clash (cc (value-high sum (getD text at 0) bs u)))
-
-      module _ (l : 48 ≤ getD text at 0) (u : getD text at 0 ≤ 57) where
-        pub rest-large : most-number < 10 * sum + (getD text at 0 - 48) → Bad ≡ rest-at text at sum
-        unfolding rest-at
-        rest-large g =
-            by-bad (value sum) text at h n m
-            (λ bs k e. omega (arith, value-above bs (10 * sum + (getD text at 0 - 48)) k (sym (value-digit sum (getD text at 0) bs l u) ∙ e)))
-
-        pub rest-on : (r : Number) → r ≡ rest-at text (at + 1) (10 * sum + (getD text at 0 - 48)) → r ≡ rest-at text at sum
-        unfolding rest-at
-        rest-on r e = e ∙ by-more (value sum) text at h n m (value (10 * sum + (getD text at 0 - 48))) (λ bs. value-digit sum (getD text at 0) bs l u)
-
-  -- the first digit
-  module _ (none-of : (bs : List ℕ) → natural (getD text at 0 ∷ bs) ≡ none) where
-    number-none : Bad ≡ number-at text at
-    unfolding number-at
-    number-none =
-        same-or (getD text at 0) 10
-        (λ e. rw (word-end text at h e))
-        (λ n. same-or (getD text at 0) 32
-        (λ e. rw (word-space text at h n e))
-        (λ m. by-bad natural text at h n m (λ bs k e. clash (cc (none-of bs)))))
-
-  pub number-low : getD text at 0 < 48 → Bad ≡ number-at text at
-  number-low l = number-none (λ bs. natural-low (getD text at 0) bs l)
-
-  pub number-high : 57 < getD text at 0 → Bad ≡ number-at text at
-  number-high u = number-none (λ bs. natural-high (getD text at 0) bs u)
-
-  module _ (r : Number) where
-    pub number-zero : getD text at 0 ≡ 48 → r ≡ zero-at text (at + 1) → r ≡ number-at text at
-    unfolding number-at zero-at
-    number-zero z e =
-        e ∙ by-more natural text at h (omega arith) (omega arith) none-left (λ bs. natural-zero (getD text at 0) bs z)
-
-    pub number-on : 48 ≤ getD text at 0 → getD text at 0 ≤ 57 → (getD text at 0 ≡ 48 → ⊥) → r ≡ rest-at text (at + 1) (getD text at 0 - 48) → r ≡ number-at text at
-    unfolding number-at rest-at
-    number-on l u z e =
-        e ∙ by-more natural text at h (omega arith) (omega arith) (value (getD text at 0 - 48)) (λ bs. natural-digit (getD text at 0) bs l u z)
-
-pub ruleset number-cases = (value-end, zero-bad, rest-low, rest-high, rest-large, rest-on, number-low, number-high, number-zero, number-on, bytes, refl, zero≤, lit≤, tt)
+pub ruleset key-cases = (refl, signed-none, signed-taken, end-none, end-taken, key-is, key-below, key-reserved, key-same, sfits-of)

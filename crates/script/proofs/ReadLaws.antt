@@ -1,6 +1,7 @@
 -- Reading from positions in a text is reading what is left of it, for one line and for request lines.
 use Prim.Native.Nat.{ℕ, zero, suc, _+_}
 use mathlib.Core.List.{List, [], _∷_, _++_}
+use mathlib.Core.Logic.{inl, inr}
 use mathlib.Core.Option.{Option, none, some}
 use mathlib.Core.Path.{_≡_, refl, sym, ap, _∙_}
 use native.Mathlib.Omega.{arith}
@@ -11,6 +12,7 @@ use borrow.Author.Tests.{eq-eqb, ne-eqb}
 use Rattle.catalogue.specs.Tests.{given}
 use Rattle.catalogue.specs.Script.{Read, bad, good, and-then, next-line, read-line, read-request, read-requests}
 use Rattle.catalogue.specs.declared.workers.Request.{Request}
+use Rattle.laws.proofs.Cases.{same?}
 use Rattle.laws.proofs.Picks.{clash}
 use Rattle.script.specs.Words.{behind}
 use Rattle.script.specs.Lines.{line-in, line-at, as-line, request-at}
@@ -21,20 +23,20 @@ use Rattle.script.specs.declared.requests.Line.the-variants as line
 use Rattle.script.specs.declared.shares.Skipped.{Skipped}
 use Rattle.script.specs.declared.shares.Skipped.the-variants.{Bad, At}
 use Rattle.script.proofs.Cursors.{requests-none, requests-one}
-use Rattle.script.proofs.Tools.{same-or}
 use Rattle.script.proofs.LineLaws.{before}
 use Rattle.script.proofs.ShareLaws.{skip-none, skip-one}
 
 -- ---- one line
 
--- what is left behind a line
+-- what is left after a line
 line-rest : (t : List ℕ) (r : List ℕ × List ℕ) → next-line t ≡ some r → r .1 ≡ drop (suc (length (r .0))) t
 unfolding next-line
 line-rest [] r e = clash (cc)
 line-rest (b ∷ bs) r e =
-    same-or b 10
-    (λ q. let p : _≡_ {A = List ℕ × List ℕ} ([], bs) r = ended q in ap (λ s. s .1) (sym p) ∙ ap (λ s. drop (length (s .0)) bs) p)
-    (λ n. by (next-line bs) (line-rest bs) (rw (ne-eqb b 10 n) at e))
+    elim (same? b 10) [
+      | inl q ↦ let p : _≡_ {A = List ℕ × List ℕ} ([], bs) r = ended q in ap (λ s. s .1) (sym p) ∙ ap (λ s. drop (length (s .0)) bs) p
+      | inr n ↦ by (next-line bs) (line-rest bs) (rw (ne-eqb b 10 n) at e)
+    ]
   where
     ended : b ≡ 10 → _≡_ {A = List ℕ × List ℕ} ([], bs) r
     ended q = let s : _≡_ {A = Option (List ℕ × List ℕ)} (some ([], bs)) (some r) = rw (eq-eqb b 10 q) at e in cc

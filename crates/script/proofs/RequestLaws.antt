@@ -1,87 +1,89 @@
--- A request line is its code, and by the code one key or two: each word that is read leaves the same question for the words behind it.
-use Prim.Native.Nat.{ℕ, _≤_, _<_}
-use mathlib.Core.Bool.{true, false}
+-- A request line is a code and, by the code, one key or two. After each word the same is asked of the words left.
+use Prim.Native.Nat.{ℕ, _<_}
+use mathlib.Core.Bool.{Bool, true, false}
 use mathlib.Core.List.{List, [], _∷_}
 use mathlib.Core.Option.{Option, none, some}
 use mathlib.Core.Path.{_≡_, refl, sym, ap, _∙_}
 use native.Mathlib.Omega.{arith}
-use mir.Facts.{toZ-ofZ}
+use lib.Dec.{leb}
 use lib.IntN.{ℤ, pos}
 use lib.ListN.{drop}
 use borrow.Author.Tests.{le-leb, lt-leb, leb-false}
-use borrow.Author.Needs.{sfits-of}
-use Rattle.catalogue.specs.Tests.{given, every}
-use Rattle.catalogue.specs.Script.{next-line, split, all-of, natural, signed, request-from, request-of-words, read-request}
+use Rattle.catalogue.specs.Tests.{pick, given, every}
+use Rattle.catalogue.specs.Workers.{asks}
+use Rattle.catalogue.specs.Script.{next-line, split, all-of, natural, signed, key-fits, request-from, request-of-words, read-request}
 use Rattle.catalogue.specs.Steps.Places.{code-known}
 use Rattle.catalogue.specs.declared.workers.Request.{Request}
-use Rattle.script.specs.Words.{most-number, number-fits, number-at}
-use Rattle.script.specs.Keys.{key-at}
-use Rattle.script.specs.Lines.{words-at, as-line, request-at, keyed, keys-at, second-at}
+use Rattle.digits.specs.Digits.{most-number, number-fits}
+use Rattle.digits.proofs.Values.{none-or}
+use Rattle.script.specs.Words.{number-at, at-number, key-at, at-key}
+use Rattle.script.specs.Lines.{words-at, as-line, request-at, line-of, keyed, keys-at}
 use Rattle.script.specs.declared.numbers.Number.{Number}
 use Rattle.script.specs.declared.numbers.Number.the-variants as number
 use Rattle.script.specs.declared.keys.Key.{Key}
 use Rattle.script.specs.declared.keys.Key.the-variants as key
 use Rattle.script.specs.declared.requests.Line.{Line}
-use Rattle.script.specs.declared.requests.Line.the-variants.{Bad, Read}
-use Rattle.script.proofs.Tools.{none-or}
-use Rattle.script.proofs.LineLaws.{words-none, not-found, item-last, item-more, line-alike}
-use Rattle.script.proofs.ItemLaws.{number-stands}
-use Rattle.script.proofs.KeyedLaws.{keyed-never, key-bad, key-more, key-last}
+use Rattle.script.specs.declared.requests.Line.the-variants.{Bad}
+use Rattle.script.proofs.Tools.{pick-through, pick-in, given-pick, every-pair, all-pair, fitting}
+use Rattle.script.proofs.Taken.{taken}
+use Rattle.script.proofs.LineLaws.{line-alike, words-none, words-pick, Goes, read-on, by-number, by-key}
 
--- ---- the second key
+-- ---- one key of several
 
-module _ (code : ℕ) (k : ℤ) (text : List ℕ) (at : ℕ) (r : Key) (e : r ≡ key-at text at) where
-  abbrev with-first : List ℤ → Option Request
-  with-first keys = request-from code (k ∷ keys)
+keyed-end : (make : List ℤ → Option Request) → keyed make [] ≡ make []
+unfolding all-of every
+keyed-end make = refl
 
-  pub second-bad : r ≡ key.Bad → Bad ≡ second-at code k text at
-  unfolding second-at
-  second-bad q = rw (key-bad with-first text at r e q)
+keyed-goes : (make : List ℤ → Option Request) → Goes signed key-fits (keyed make) (λ k. keyed (λ keys. make (k ∷ keys)))
+keyed-goes make w ws = all-pair signed w ws (λ keys. pick (every key-fits keys) (make keys) none) ∙ by (signed w) (all-of signed ws)
+  where
+    by : (o : Option ℤ) (os : Option (List ℤ)) → given o none (λ k. given os none (λ ks. pick (every key-fits (k ∷ ks)) (make (k ∷ ks)) none))
+        ≡ given o none (λ k. pick (key-fits k) (given os none (λ ks. pick (every key-fits ks) (make (k ∷ ks)) none)) none)
+    by none os = refl
+    by (some k) none = sym (none-or (key-fits k) none refl)
+    by (some k) (some ks) = rw (every-pair key-fits k ks) (pick-in (key-fits k) (every key-fits ks) (make (k ∷ ks)))
 
-  pub second-more : (l : ℤ) (next : ℕ) → r ≡ key.More l next → Bad ≡ second-at code k text at
-  unfolding second-at
-  second-more l next q =
-      rw (key-more with-first text at r e l next q)
-      (rw (words-none (keyed (λ keys. with-first (l ∷ keys))) text next (keyed-never (λ keys. with-first (l ∷ keys)) (λ m ms. refl))))
+-- where a key more is too many
+keyed-never : (make : List ℤ → Option Request) → ((k : ℤ) (ks : List ℤ) → make (k ∷ ks) ≡ none) → (w : List ℕ) (ws : List (List ℕ)) → keyed make (w ∷ ws) ≡ none
+keyed-never make never w ws = all-pair signed w ws (λ keys. pick (every key-fits keys) (make keys) none) ∙ by (signed w) (all-of signed ws)
+  where
+    by : (o : Option ℤ) (os : Option (List ℤ)) → given o none (λ k. given os none (λ ks. pick (every key-fits (k ∷ ks)) (make (k ∷ ks)) none)) ≡ none
+    by none os = refl
+    by (some k) none = refl
+    by (some k) (some ks) = none-or (every key-fits (k ∷ ks)) (make (k ∷ ks)) (never k ks)
 
-  pub second-last : (l l′ k′ : ℤ) (next : ℕ) → 3 < code → r ≡ key.Last l next → l′ ≡ l → k′ ≡ k → Read (record { code = code; k = k′; l = l′ }) next ≡ second-at code k text at
-  unfolding second-at
-  second-last l l′ k′ next h q s t = rw (key-last with-first text at r e l next q, lt-leb code 3 h, s, t)
+-- ---- the keys after a code
 
--- ---- the first key
+module _ (code : ℕ) (text : List ℕ) where
+  abbrev by-second : ℤ → Key → Line
+  by-second k r = at-key r Bad (λ l next last. pick last (pick (leb code 3) Bad (line-of code k l next)) Bad)
 
-module _ (code : ℕ) (text : List ℕ) (at : ℕ) (r : Key) (e : r ≡ key-at text at) where
-  pub keys-bad : r ≡ key.Bad → Bad ≡ keys-at code text at
+  abbrev by-first : Key → Line
+  by-first r = at-key r Bad (λ k next last. pick last (pick (leb code 3) (line-of code k (pos 0) next) Bad) (by-second k (key-at text next)))
+
+  module _ (make : List ℤ → Option Request) (at : ℕ) where
+    keyed-line : as-line (words-at (keyed make) text at) ≡ as-line (at-key (key-at text at) none (read-on text (λ k. keyed (λ keys. make (k ∷ keys)))))
+    keyed-line = ap as-line (by-key text at (keyed make) (λ k. keyed (λ keys. make (k ∷ keys))) (keyed-goes make))
+
+  second-is : (k : ℤ) (at : ℕ) → as-line (words-at (keyed (λ keys. request-from code (k ∷ keys))) text at) ≡ by-second k (key-at text at)
+  second-is k at = keyed-line (λ keys. request-from code (k ∷ keys)) at ∙ by (key-at text at)
+    where
+      by : (r : Key) → as-line (at-key r none (read-on text (λ l. keyed (λ keys. request-from code (k ∷ (l ∷ keys)))))) ≡ by-second k r
+      by key.Bad = refl
+      by (key.At l next true) = rw (keyed-end (λ keys. request-from code (k ∷ (l ∷ keys)))) (pick-through (λ o. as-line (given o none (λ a. some (a, next)))) (leb code 3) none (some (asks code k l)))
+      by (key.At l next false) =
+          ap as-line (words-none text next (keyed (λ keys. request-from code (k ∷ (l ∷ keys)))) (keyed-never (λ keys. request-from code (k ∷ (l ∷ keys))) (λ m ms. refl)))
+
+  pub keys-is : (at : ℕ) (s : Line) → s ≡ by-first (key-at text at) → s ≡ keys-at code text at
   unfolding keys-at
-  keys-bad q = rw (key-bad (request-from code) text at r e q)
-
-  module _ (k : ℤ) (next : ℕ) where
-    one-only : code ≤ 3 → (l : ℤ) (ls : List ℤ) → request-from code (k ∷ (l ∷ ls)) ≡ none
-    one-only h l [] = rw (le-leb code 3 h)
-    one-only h l (m ∷ ms) = refl
-
-    pub keys-more-not : r ≡ key.More k next → code ≤ 3 → Bad ≡ keys-at code text at
-    unfolding keys-at
-    keys-more-not q h =
-        rw (key-more (request-from code) text at r e k next q)
-        (rw (words-none (keyed (λ keys. request-from code (k ∷ keys))) text next (keyed-never (λ keys. request-from code (k ∷ keys)) (one-only h))))
-
-    pub keys-more : (s : Line) (k′ : ℤ) → r ≡ key.More k next → s ≡ second-at code k′ text next → k′ ≡ k → s ≡ keys-at code text at
-    unfolding keys-at second-at
-    keys-more s k′ q d t = d ∙ ap (λ l. second-at code l text next) t ∙ ap as-line (sym (key-more (request-from code) text at r e k next q))
-
-    pub keys-last : (k′ : ℤ) → r ≡ key.Last k next → code ≤ 3 → k′ ≡ k → Read (record { code = code; k = k′; l = pos 0 }) next ≡ keys-at code text at
-    unfolding keys-at
-    keys-last k′ q h t = rw (key-last (request-from code) text at r e k next q, le-leb code 3 h, t)
-
-    pub keys-last-not : r ≡ key.Last k next → 3 < code → Bad ≡ keys-at code text at
-    unfolding keys-at
-    keys-last-not q h = rw (key-last (request-from code) text at r e k next q, lt-leb code 3 h)
+  keys-is at s e = e ∙ sym (keyed-line (request-from code) at ∙ by (key-at text at))
+    where
+      by : (r : Key) → as-line (at-key r none (read-on text (λ k. keyed (λ keys. request-from code (k ∷ keys))))) ≡ by-first r
+      by key.Bad = refl
+      by (key.At k next true) = rw (keyed-end (λ keys. request-from code (k ∷ keys))) (pick-through (λ o. as-line (given o none (λ a. some (a, next)))) (leb code 3) (some (asks code k (pos 0))) none)
+      by (key.At k next false) = second-is k next
 
 -- ---- the code
-
-above : (n : ℕ) → 6 < n → code-known n ≡ false
-above n h = rw (le-leb 1 n (omega arith), lt-leb n 6 h)
 
 -- an empty line has one empty word, which is no number
 words-or-none : (l : List ℕ) → read-request l ≡ request-of-words (split l)
@@ -89,79 +91,43 @@ unfolding split
 words-or-none [] = refl
 words-or-none (b ∷ bs) = refl
 
-module _ (w : List ℕ) (n : ℕ) (q : natural w ≡ some n) where
-  coded-none : code-known n ≡ false → (ws : List (List ℕ)) → request-of-words (w ∷ ws) ≡ none
-  coded-none t ws = rw (q, t) (by (all-of signed ws))
-    where
-      by : (o : Option (List ℤ)) → given {B = Option Request} o none (λ keys. none) ≡ none
-      by none = refl
-      by (some ks) = refl
+abbrev coded : ℕ → List (List ℕ) → Option Request
+coded code ws = pick (code-known code) (keyed (request-from code) ws) none
 
-  coded : code-known n ≡ true → (ws : List (List ℕ)) → request-of-words (w ∷ ws) ≡ keyed (request-from n) ws
-  coded t ws = rw (q, t)
+request-goes : Goes natural number-fits request-of-words coded
+request-goes w ws = by (natural w) ∙ fitting (natural w) (λ code. coded code ws) large
+  where
+    by : (o : Option ℕ) → given o none (λ code. given (all-of signed ws) none (λ keys. pick (code-known code) (pick (every key-fits keys) (request-from code keys) none) none)) ≡ given o none (λ code. coded code ws)
+    by none = refl
+    by (some code) = given-pick (code-known code) (all-of signed ws) (λ keys. pick (every key-fits keys) (request-from code keys) none)
 
-  coded-end : request-of-words (w ∷ []) ≡ none
-  unfolding all-of every
-  coded-end = rw q (none-or (code-known n) none refl)
-
-  coded-large : number-fits n ≡ false → (ws : List (List ℕ)) → request-of-words (w ∷ ws) ≡ none
-  coded-large t = coded-none (above n (omega (arith, leb-false n most-number t)))
+    large : (n : ℕ) → number-fits n ≡ false → coded n ws ≡ none
+    large n t = let g : 6 < n = omega (arith, leb-false n most-number t) in rw (le-leb 1 n (omega arith), lt-leb n 6 g)
 
 module _ (text : List ℕ) (at : ℕ) where
-  by-words : request-at text at ≡ as-line (words-at request-of-words text at)
-  unfolding request-at
-  by-words = ap as-line (line-alike read-request (λ l. request-of-words (split l)) words-or-none at (next-line (drop at text)))
+  abbrev by-code : Number → Line
+  by-code r = at-number r Bad (λ code next last. pick last Bad (pick (leb 1 code) (pick (leb code 6) (keys-at code text next) Bad) Bad))
 
-  module _ (r : Number) (e : r ≡ number-at text at) where
-    pub request-bad : r ≡ number.Bad → Bad ≡ request-at text at
-    request-bad q =
-        rw (by-words, not-found natural number-fits text at request-of-words (number-stands text at r e none q) (λ w ws n. rw n) (λ w n ws s t. coded-large w n s t ws))
+  pub request-is : (s : Line) → s ≡ by-code (number-at text at) → s ≡ request-at text at
+  unfolding request-at keys-at
+  request-is s e =
+      e ∙ sym (ap as-line
+      (line-alike read-request (λ l. request-of-words (split l)) words-or-none at (next-line (drop at text)) ∙ by-number text at request-of-words coded request-goes)
+      ∙ by (number-at text at))
+    where
+      known : (t u : Bool) (o : Option (Request × ℕ)) → as-line (pick (pick t u false) o none) ≡ pick t (pick u (as-line o) Bad) Bad
+      known true true o = refl
+      known true false o = refl
+      known false u o = refl
 
-    module _ (code next : ℕ) where
-      pub request-last : r ≡ number.Last code next → Bad ≡ request-at text at
-      request-last q =
-          rw (
-            by-words,
-            item-last request-of-words text at natural number-fits code next (number-stands text at r e _ q)
-                none (λ w s t. coded-end w code s),
-          )
+      by : (r : Number) → as-line (at-number r none (read-on text coded)) ≡ by-code r
+      by number.Bad = refl
+      by (number.At code next true) = rw (keyed-end (request-from code), none-or (code-known code) none refl)
+      by (number.At code next false) =
+          rw (words-pick text next (code-known code) (keyed (request-from code))) (known (leb 1 code) (leb code 6) (words-at (keyed (request-from code)) text next))
 
-      module _ (q : r ≡ number.More code next) where
-        more : (kind : List (List ℕ) → Option Request) → ((w : List ℕ) → natural w ≡ some code → (ws : List (List ℕ)) → request-of-words (w ∷ ws) ≡ kind ws)
-            → as-line (words-at kind text next) ≡ request-at text at
-        more kind same =
-            ap as-line (sym
-            (item-more request-of-words text at natural number-fits code next (number-stands text at r e _ q)
-            kind (λ w s t. same w s)))
-            ∙ sym by-words
+-- a key reaches a callee through its bits, and means the same there
+pub line-arg : (code : ℕ) (s : Line) (k k′ l l′ : ℤ) (next : ℕ) → k′ ≡ k → l′ ≡ l → s ≡ line-of code k′ l′ next → s ≡ line-of code k l next
+line-arg code s k k′ l l′ next e d q = q ∙ rw (e, d)
 
-        no-code : code-known code ≡ false → Bad ≡ request-at text at
-        no-code t = ap as-line (sym (words-none (λ ws. none) text next (λ w ws. refl))) ∙ more (λ ws. none) (λ w s. coded-none w code s t)
-
-        pub request-low : code < 1 → Bad ≡ request-at text at
-        request-low h = no-code (rw (lt-leb 1 code h))
-
-        pub request-high : 6 < code → Bad ≡ request-at text at
-        request-high h = no-code (above code h)
-
-        pub request-on : (s : Line) → s ≡ keys-at code text next → 1 ≤ code → code ≤ 6 → s ≡ request-at text at
-        unfolding keys-at
-        request-on s d l u = d ∙ more (keyed (request-from code)) (λ w s. coded w code s (rw (le-leb 1 code l, le-leb code 6 u)))
-
-pub ruleset request-cases = (
-  second-bad,
-  second-more,
-  second-last,
-  keys-bad,
-  keys-more-not,
-  keys-more,
-  keys-last,
-  keys-last-not,
-  request-bad,
-  request-last,
-  request-low,
-  request-high,
-  request-on,
-  toZ-ofZ,
-  sfits-of,
-)
+pub ruleset request-cases = (taken, keys-is, request-is, line-arg)

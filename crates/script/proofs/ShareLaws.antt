@@ -1,4 +1,5 @@
--- Request lines that were read leave the same question for those behind them, and the first line of each worker joins those of the workers before.
+-- After request lines that were read, the same is asked of those left.
+-- The first line of each worker joins those of the workers before.
 use Prim.Native.Nat.{ℕ, suc, _+_, _-_, _≤_, _<_}
 use mathlib.Core.List.{List, [], _∷_, _++_, append-assoc, append-nil}
 use mathlib.Core.Path.{_≡_, refl, sym, ap, _∙_}
@@ -16,7 +17,7 @@ use Rattle.script.specs.declared.requests.Line.{Line}
 use Rattle.script.specs.declared.requests.Line.the-variants as line
 use Rattle.script.specs.declared.shares.Skipped.{Skipped}
 use Rattle.script.specs.declared.shares.Skipped.the-variants.{Bad, At}
-use Rattle.script.proofs.HeaderLaws.{sum-pair}
+use Rattle.script.proofs.HeaderParts.{sum-pair}
 
 -- ---- some lines skipped
 
@@ -28,7 +29,7 @@ pub skip-one : (text : List ℕ) (count n at : ℕ) → skip-at text (suc count)
 unfolding skip-at
 skip-one text count n at = refl
 
--- i lines are behind
+-- i lines were read
 pub record Skipping (text : List ℕ) (at count n place i : ℕ) : Type 0 where
   pub same : skip-at text count n at ≡ skip-at text (count - i) (n + i) place
   pub within : i ≤ count

@@ -12,7 +12,7 @@ use Rattle.script.specs.Shares.{at-skipped, skip-at, starts-at}
 use Rattle.script.specs.Checks.{requests-at, shares-at}
 use Rattle.script.specs.declared.shares.Skipped.{Skipped}
 use Rattle.script.specs.declared.shares.Skipped.the-variants.{Bad, At}
-use Rattle.script.proofs.HeaderLaws.{sum-none, sum-pair}
+use Rattle.script.proofs.HeaderParts.{sum-none, sum-pair}
 use Rattle.script.proofs.ShareLaws.{skip-none, starts-none, starts-pair}
 use Rattle.script.proofs.ReadLaws.{skip-sum, requests-sum, requests-long}
 

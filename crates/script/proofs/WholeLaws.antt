@@ -1,4 +1,5 @@
--- Each way through the check ends where the definition does: with the same bad line, or with the script that the positions give.
+-- Each way through the check ends where the definition does:
+-- with the same bad line, or with the script that the positions give.
 use Prim.Native.Nat.{ℕ, _+_, _≤_, _<_}
 use mathlib.Core.Bool.{Bool, true, false}
 use mathlib.Core.List.{List, [], _∷_}
@@ -31,9 +32,9 @@ use Rattle.laws.proofs.Cases.{lt-or}
 use Rattle.script.proofs.ReadLaws.{line-read, skip-read}
 use Rattle.script.proofs.StartLaws.{skipped-of, starts-skip, starts-first, starts-shares}
 use Rattle.script.proofs.TurnReads.{turns-read, turns-manned}
-use Rattle.script.proofs.HeadedLaws.{Headed, headed, sharing-first, few-workers, few-requests}
+use Rattle.script.proofs.GoodHeaders.{Headed, headed, sharing-first, few-workers, few-requests}
 
--- ---- the lines behind it
+-- ---- the lines after it
 
 module _ (text : List ℕ) (h : Heading) (k : Headed text h) where
   abbrev counts : List ℕ
@@ -42,7 +43,7 @@ module _ (text : List ℕ) (h : Heading) (k : Headed text h) where
   abbrev scripted : List ℕ → Script
   scripted schedule = record { counts = counts; requests = requests-at text (sum counts) (h .next); schedule = schedule }
 
-  -- the schedule and what stands behind it
+  -- the schedule and what follows it
   abbrev scheduling : ℕ → Read Script
   scheduling at =
       and-then (read-line (read-schedule (h .workers) (h .turns)) (2 + h .total) (drop at text)) (λ s. ended (3 + h .total) (scripted (s .0)) (s .1))
@@ -64,7 +65,7 @@ module _ (text : List ℕ) (h : Heading) (k : Headed text h) where
   unfolding schedule-at
   scheduling-read at =
       rw (line-read (read-schedule (h .workers) (h .turns)) (2 + h .total) text at)
-      (by (line-at (read-schedule (h .workers) (h .turns)) text at) (turns-read (h .workers) (k .few) text (h .turns) at))
+      (by (line-at (read-schedule (h .workers) (h .turns)) text at) (λ r e. turns-read (h .workers) text (k .few) (h .turns) at r e .same))
     where
       by : (o : Option (List ℕ × ℕ)) → ((r : List ℕ × ℕ) → o ≡ some r → r .0 ≡ turns-from text (h .turns) at)
           → and-then {A = List ℕ × List ℕ} {B = Script} (given o (bad (2 + h .total)) (λ a. good (a .0, drop (a .1) text))) (λ s. ended (3 + h .total) (scripted (s .0)) (s .1))
@@ -139,7 +140,7 @@ module _ (text : List ℕ) (r : Checked) where
           few = k .few;
           most = omega (arith, k .summed, k .most);
           timed = k .timed;
-          manned = turns-manned (h .workers) (k .few) text (h .turns) at next s;
+          manned = turns-manned (h .workers) text (k .few) (h .turns) at next s;
         }
 
         pub ended-so : r ≡ ending-at text h (sh .starts) at → Answers text (r .verdict) r

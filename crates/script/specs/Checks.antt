@@ -1,4 +1,4 @@
--- What a check of a whole text answers, and how the positions that it gives belong to the script that the text is.
+-- What a check of a whole text returns, and how the positions that it gives belong to the script that the text is.
 use Prim.Native.Nat.{ℕ, zero, suc, _+_, _≤_}
 use mathlib.Core.Bool.{true}
 use mathlib.Core.List.{List, [], _∷_}
@@ -70,7 +70,7 @@ abbrev pub at-after : {A : Type 0} → After → A → (ℕ → A) → A
 at-after after.Bad other f = other
 at-after (after.At next) other f = f next
 
--- the schedule, and nothing behind it
+-- the schedule, and nothing after it
 unfoldable pub ending-at : List ℕ → Heading → List ℕ → ℕ → Checked
 ending-at text h starts at =
     at-after (schedule-at (h .workers) (h .turns) text at) (no-script (2 + h .total)) (λ next.

@@ -27,7 +27,7 @@ numbered (some h) = some (length (h .0 .counts), (sum (h .0 .counts), h))
 unfoldable pub header-line : List ℕ → Option Numbered
 header-line text = numbered (line-at read-header text 0)
 
--- the words behind the number of workers and some of the counts
+-- the words after the number of workers and some of the counts
 abbrev pub counting : ℕ → List ℕ → List (List ℕ) → Option Header
 counting workers counts ws = given (all-of natural ws) none (λ ns. header-of (workers ∷ (counts ++ ns)))
 

@@ -1,6 +1,5 @@
 -- What the contracts of the reader cite beside the definition of scripts.
 pub mod Words
-pub mod Keys
 pub mod Lines
 pub mod Headers
 pub mod Shares

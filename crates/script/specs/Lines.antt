@@ -1,10 +1,11 @@
 -- A line that stands at a position of a text, and the request that it is.
 use Prim.Native.Nat.{ℕ}
-use mathlib.Core.List.{List, _∷_}
+use mathlib.Core.List.{List}
 use mathlib.Core.Option.{Option, none, some}
 use lib.IntN.{ℤ}
 use lib.ListN.{drop}
 use Rattle.catalogue.specs.Tests.{pick, given, every}
+use Rattle.catalogue.specs.Workers.{asks}
 use Rattle.catalogue.specs.Script.{next-line, split, all-of, signed, key-fits, request-from, read-request}
 use Rattle.catalogue.specs.declared.workers.Request.{Request}
 use Rattle.script.specs.Words.{behind}
@@ -32,13 +33,14 @@ as-line (some r) = Read (r .0) (r .1)
 unfoldable pub request-at : List ℕ → ℕ → Line
 request-at text at = as-line (line-at read-request text at)
 
--- the words behind those that were read, as keys of which something is made
+-- a line that was read
+abbrev pub line-of : ℕ → ℤ → ℤ → ℕ → Line
+line-of code k l next = Read (asks code k l) next
+
+-- the words after those that were read, as keys of which something is made
 abbrev pub keyed : (List ℤ → Option Request) → List (List ℕ) → Option Request
 keyed make ws = given (all-of signed ws) none (λ keys. pick (every key-fits keys) (make keys) none)
 
--- what follows a code, and what follows a code and a key
+-- what follows a code
 unfoldable pub keys-at : ℕ → List ℕ → ℕ → Line
 keys-at code text at = as-line (words-at (keyed (request-from code)) text at)
-
-unfoldable pub second-at : ℕ → ℤ → List ℕ → ℕ → Line
-second-at code k text at = as-line (words-at (keyed (λ keys. request-from code (k ∷ keys))) text at)

@@ -21,18 +21,18 @@ abbrev pub at-skipped : {A : Type 0} → Skipped → (ℕ → A) → (ℕ → A)
 at-skipped (Bad n) other f = other n
 at-skipped (At next) other f = f next
 
--- where the text goes on behind so many request lines, of which the first has a number
+-- where the text goes on after so many request lines, of which the first has a number
 unfoldable pub skip-at : List ℕ → ℕ → ℕ → ℕ → Skipped
 skip-at text zero n at = At at
 skip-at text (suc count) n at = at-request (request-at text at) (Bad n) (λ q next. skip-at text count (suc n) next)
 
--- where each worker's lines begin, and where the text goes on behind them
+-- where each worker's lines begin, and where the text goes on after them
 unfoldable pub starts-at : List ℕ → List ℕ → ℕ → ℕ → Read (List ℕ × ℕ)
 starts-at text [] n at = good ([], at)
 starts-at text (count ∷ counts) n at =
     at-skipped (skip-at text count n at) bad (λ next. and-then (starts-at text counts (n + count) next) (λ r. good (at ∷ r .0, r .1)))
 
--- the same behind those that were found before
+-- the same after those that were found before
 abbrev pub onto : List ℕ → Read (List ℕ × ℕ) → Read (List ℕ × ℕ)
 onto front (bad n) = bad n
 onto front (good r) = good (front ++ r .0, r .1)
@@ -40,7 +40,7 @@ onto front (good r) = good (front ++ r .0, r .1)
 abbrev pub starts-told : ℕ → Shares → Read (List ℕ × ℕ)
 starts-told workers r = at-skipped (r .skipped) bad (λ next. good (take workers (r .starts), next))
 
--- the lines of the workers below w are behind; n is the number of the next line
+-- the lines of the workers below w were read; n is the number of the next line
 pub record Sharing (workers w n : ℕ) (counts starts : List ℕ) : Type 0 where
   pub few : workers ≤ most-workers
   pub within : w ≤ workers

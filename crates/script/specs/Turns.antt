@@ -6,10 +6,8 @@ use lib.ListN.{length}
 use lib.Dec.{eqb, ltb}
 use Rattle.catalogue.specs.Tests.{pick, given, every}
 use Rattle.catalogue.specs.Script.{all-of, natural, read-schedule}
-use Rattle.script.specs.Words.{number-at}
+use Rattle.script.specs.Words.{number-at, at-number}
 use Rattle.script.specs.Lines.{line-at, words-at}
-use Rattle.script.specs.declared.numbers.Number.{Number}
-use Rattle.script.specs.declared.numbers.Number.the-variants as number
 use Rattle.script.specs.declared.turns.After.{After}
 use Rattle.script.specs.declared.turns.After.the-variants.{Bad, At}
 use Rattle.script.specs.declared.turns.Turn.{Turn}
@@ -29,22 +27,6 @@ scheduled workers turns ws =
 unfoldable pub turns-at : ℕ → ℕ → List ℕ → ℕ → After
 turns-at workers turns text at = as-after (words-at (scheduled workers turns) text at)
 
--- a turn that others follow, and the last one
-abbrev pub turn-before : ℕ → Number → After
-turn-before workers number.Bad = Bad
-turn-before workers (number.More w next) = pick (ltb w workers) (At next) Bad
-turn-before workers (number.Last w next) = Bad
-
-abbrev pub turn-last : ℕ → Number → After
-turn-last workers number.Bad = Bad
-turn-last workers (number.More w next) = Bad
-turn-last workers (number.Last w next) = pick (ltb w workers) (At next) Bad
-
 -- the worker whose turn it is, and where the next turn stands; of no meaning where no number stands
-abbrev pub turn-of : Number → Turn
-turn-of number.Bad = record { worker = 0; next = 0 }
-turn-of (number.More w next) = record { worker = w; next = next }
-turn-of (number.Last w next) = record { worker = w; next = next }
-
 unfoldable pub turn-at : List ℕ → ℕ → Turn
-turn-at text at = turn-of (number-at text at)
+turn-at text at = at-number (number-at text at) (record { worker = 0; next = 0 }) (λ w next last. record { worker = w; next = next })

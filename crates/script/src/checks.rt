@@ -14,8 +14,8 @@ pub enum Verdict {
     Bad { line: u32 },
 }
 
-// How many requests each worker has and where its first one stands, for the workers below the number of workers, and where the schedule begins, with
-// so many turns. All is zero where the verdict is bad.
+// How many requests each worker has and where its first one stands, for the workers below the number of workers;
+// and where the schedule begins, with so many turns. All is zero where the verdict is bad.
 pub struct Checked {
     pub verdict: Verdict,
     pub workers: u32,
@@ -38,7 +38,7 @@ fn no_script(line: u32) -> Checked
     }
 }
 
-// The schedule, and nothing behind it.
+// The schedule, and nothing after it.
 fn check_end(text: &[u8], h: Heading, starts: [usize; 8], at: usize) -> Checked
     requires { ⌜ h .workers ≤ 8 ⌝ }
     requires { ⌜ h .total ≤ 1024 ⌝ }

@@ -6,7 +6,7 @@ ghost use Rattle.script.specs.Headers.{Counted, told, header-parts, head
 use crate::numbers::Number;
 use crate::numbers::read_number;
 
-// Whether the line is a header, and what it says. The counts from the number of workers on belong to nobody.
+// Whether the line is a header, and what it says. The counts from the number of workers on belong to no worker.
 pub struct Heading {
     pub good: bool,
     pub workers: u32,
@@ -42,7 +42,8 @@ fn good_header(workers: u32, total: u32, counts: [u32; 8], turns: u32, next: usi
     }
 }
 
-// The counts from the i-th on, behind others that sum up to `total`. One more than there are workers, the number is the length of the schedule.
+// The counts from the i-th on, after others that sum up to `total`.
+// The number after all counts is the length of the schedule.
 fn read_counts(
     text: &[u8],
     at: usize,
@@ -54,45 +55,45 @@ fn read_counts(
     requires { ⌜ Counted workers i total counts ⌝ }
     ensures { λ r. ⌜ told r ≡ counts-at workers (take i counts) (now (text .entry)) at ⌝ }
 {
-    match read_number(text, at) {
-        Number::Bad => no_header(),
-        Number::Last { value, next } => {
-            if i < workers {
-                return no_header();
-            }
-            if 8192 < value {
-                return no_header();
-            }
-            good_header(workers, total, counts, value, next)
+    let bad = no_header();
+    let Number::At { value, next, last } = read_number(text, at) else {
+        return bad;
+    };
+    if i < workers {
+        if last {
+            return bad;
         }
-        Number::More { value, next } => {
-            if i < workers {
-                if 1024 - total < value {
-                    return no_header();
-                }
-                let mut more = counts;
-                more[i as usize] = value;
-                return read_counts(text, next, workers, i + 1, total + value, more);
-            }
-            no_header()
+        if 1024 - total < value {
+            return bad;
         }
+        let mut more = counts;
+        more[i as usize] = value;
+        return read_counts(text, next, workers, i + 1, total + value, more);
     }
+    if last {
+        if 8192 < value {
+            return bad;
+        }
+        return good_header(workers, total, counts, value, next);
+    }
+    bad
 }
 
 pub fn read_header(text: &[u8]) -> Heading
     ensures { λ r. ⌜ told r ≡ header-line (now (text .entry)) ⌝ }
 {
-    match read_number(text, 0) {
-        Number::Bad => no_header(),
-        Number::Last { value: _, next: _ } => no_header(),
-        Number::More { value, next } => {
-            if value < 1 {
-                return no_header();
-            }
-            if 8 < value {
-                return no_header();
-            }
-            read_counts(text, next, value, 0, 0, [0; 8])
-        }
+    let bad = no_header();
+    let Number::At { value, next, last } = read_number(text, 0) else {
+        return bad;
+    };
+    if last {
+        return bad;
     }
+    if value < 1 {
+        return bad;
+    }
+    if 8 < value {
+        return bad;
+    }
+    read_counts(text, next, value, 0, 0, [0; 8])
 }

@@ -1,11 +1,11 @@
 // Request lines: a code and its keys.
 ghost use mathlib.Core.Path.{_≡_};
-ghost use Prim.Native.Nat.{_<_};
-ghost use Rattle.script.specs.Lines.{request-at, keys-at, second-at};
+ghost use Rattle.script.specs.Lines.{request-at, keys-at, line-of};
 use crate::keys::Key;
 use crate::keys::read_key;
 use crate::numbers::Number;
 use crate::numbers::read_number;
+use catalogue::workers::Pair;
 use catalogue::workers::Request;
 
 // The request of a line, and where the next line begins.
@@ -14,17 +14,15 @@ pub enum Line {
     Read { request: Request, next: usize },
 }
 
-fn second_key(text: &[u8], at: usize, code: u32, k: i32) -> Line
-    requires { ⌜ 3 < code ⌝ }
-    ensures { λ r. ⌜ r ≡ second-at code k (now (text .entry)) at ⌝ }
+fn line_of(code: u32, k: i32, l: i32, next: usize) -> Line
+    ensures { λ r. ⌜ r ≡ line-of code k l next ⌝ }
 {
-    match read_key(text, at) {
-        Key::Bad => Line::Bad,
-        Key::More { key: _, next: _ } => Line::Bad,
-        Key::Last { key, next } => Line::Read {
-            request: Request { code, k, l: key },
-            next,
+    Line::Read {
+        request: Request {
+            code,
+            pair: Pair { k, l },
         },
+        next,
     }
 }
 
@@ -32,40 +30,45 @@ fn second_key(text: &[u8], at: usize, code: u32, k: i32) -> Line
 fn read_keys(text: &[u8], at: usize, code: u32) -> Line
     ensures { λ r. ⌜ r ≡ keys-at code (now (text .entry)) at ⌝ }
 {
-    match read_key(text, at) {
-        Key::Bad => Line::Bad,
-        Key::More { key, next } => {
-            if code <= 3 {
-                return Line::Bad;
-            }
-            second_key(text, next, code, key)
+    let Key::At {
+        key: k,
+        next: after,
+        last: lone,
+    } = read_key(text, at)
+    else {
+        return Line::Bad;
+    };
+    if lone {
+        if code <= 3 {
+            return line_of(code, k, 0, after);
         }
-        Key::Last { key, next } => {
-            if code <= 3 {
-                return Line::Read {
-                    request: Request { code, k: key, l: 0 },
-                    next,
-                };
-            }
-            Line::Bad
-        }
+        return Line::Bad;
     }
+    let Key::At { key: l, next, last } = read_key(text, after) else {
+        return Line::Bad;
+    };
+    if last {
+        if code <= 3 {
+            return Line::Bad;
+        }
+        return line_of(code, k, l, next);
+    }
+    Line::Bad
 }
 
 pub fn read_request(text: &[u8], at: usize) -> Line
     ensures { λ r. ⌜ r ≡ request-at (now (text .entry)) at ⌝ }
 {
-    match read_number(text, at) {
-        Number::Bad => Line::Bad,
-        Number::Last { value: _, next: _ } => Line::Bad,
-        Number::More { value, next } => {
-            if value < 1 {
-                return Line::Bad;
-            }
-            if 6 < value {
-                return Line::Bad;
-            }
-            read_keys(text, next, value)
+    let Number::At { value, next, last } = read_number(text, at) else {
+        return Line::Bad;
+    };
+    if last {
+        return Line::Bad;
+    }
+    if 1 <= value {
+        if value <= 6 {
+            return read_keys(text, next, value);
         }
     }
+    Line::Bad
 }

@@ -6,7 +6,7 @@ ghost use Rattle.script.specs.Shares.{Sharing, skip-at, starts-at, start
 use crate::requests::Line;
 use crate::requests::read_request;
 
-// The number of the first bad line, or where the text goes on behind all.
+// The number of the first bad line, or where the text goes on after all.
 pub enum Skipped {
     Bad { line: u32 },
     At { next: usize },

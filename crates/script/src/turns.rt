@@ -1,12 +1,11 @@
 // The schedule line: the numbers of the workers, turn by turn.
 ghost use mathlib.Core.Path.{_≡_};
 ghost use Prim.Native.Nat.{_≤_};
-ghost use Rattle.script.specs.Words.{number-at};
-ghost use Rattle.script.specs.Turns.{turn-at, turn-before, turn-last, turns-at, schedule-at};
+ghost use Rattle.script.specs.Turns.{turn-at, turns-at, schedule-at};
 use crate::numbers::Number;
 use crate::numbers::read_number;
 
-// Where the text goes on behind what was read.
+// Where the text goes on after what was read.
 pub enum After {
     Bad,
     At { next: usize },
@@ -18,68 +17,48 @@ pub struct Turn {
     pub next: usize,
 }
 
-// In a schedule that was checked; elsewhere it may answer worker 0.
+// In a schedule that was checked; elsewhere it may return worker 0.
 pub fn read_turn(text: &[u8], at: usize) -> Turn
     ensures { λ r. ⌜ r ≡ turn-at (now (text .entry)) at ⌝ }
 {
-    match read_number(text, at) {
-        Number::Bad => Turn { worker: 0, next: 0 },
-        Number::More { value, next } => Turn {
-            worker: value,
-            next,
-        },
-        Number::Last { value, next } => Turn {
-            worker: value,
-            next,
-        },
+    let Number::At {
+        value,
+        next,
+        last: _,
+    } = read_number(text, at)
+    else {
+        return Turn { worker: 0, next: 0 };
+    };
+    Turn {
+        worker: value,
+        next,
     }
 }
 
-fn check_turn(text: &[u8], at: usize, workers: u32) -> After
-    ensures { λ r. ⌜ r ≡ turn-before workers (number-at (now (text .entry)) at) ⌝ }
-{
-    match read_number(text, at) {
-        Number::Bad => After::Bad,
-        Number::Last { value: _, next: _ } => After::Bad,
-        Number::More { value, next } => {
-            if value < workers {
-                return After::At { next };
-            }
-            After::Bad
-        }
-    }
-}
-
-fn check_last(text: &[u8], at: usize, workers: u32) -> After
-    ensures { λ r. ⌜ r ≡ turn-last workers (number-at (now (text .entry)) at) ⌝ }
-{
-    match read_number(text, at) {
-        Number::Bad => After::Bad,
-        Number::More { value: _, next: _ } => After::Bad,
-        Number::Last { value, next } => {
-            if value < workers {
-                return After::At { next };
-            }
-            After::Bad
-        }
-    }
-}
-
+// So many turns, of which the last one ends the line.
 fn check_turns(text: &[u8], at: usize, workers: u32, turns: u32) -> After
     requires { ⌜ workers ≤ 8 ⌝ }
-    requires { ⌜ 1 ≤ turns ⌝ }
     ensures { λ r. ⌜ r ≡ turns-at workers turns (now (text .entry)) at ⌝ }
 {
     let mut place = at;
     let mut left = turns;
-    while 1 < left {
-        let After::At { next } = check_turn(text, place, workers) else {
+    while 0 < left {
+        let Number::At { value, next, last } = read_number(text, place) else {
             return After::Bad;
         };
+        if workers <= value {
+            return After::Bad;
+        }
+        if last {
+            if left == 1 {
+                return After::At { next };
+            }
+            return After::Bad;
+        }
         place = next;
         left -= 1;
     }
-    check_last(text, place, workers)
+    After::Bad
 }
 
 // A schedule of no turns is an empty line.

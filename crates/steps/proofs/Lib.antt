@@ -1,4 +1,3 @@
 -- Laws that the proofs of this crate share.
-pub mod Args
 pub mod Decisions
 pub mod Made

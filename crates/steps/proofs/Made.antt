@@ -1,6 +1,7 @@
--- Every decision that is made of a record can be carried out on it: `decide-follows`. One lemma for each definition, by its cases.
+-- Every decision that is made of a record can be carried out on it: `decide-follows`.
+-- One lemma for each definition, by its cases.
 use Prim.Native.Nat.{ℕ, _<_, _≤_}
-use mathlib.Core.Bool.{Bool, true, false}
+use mathlib.Core.Bool.{Bool, false}
 use mathlib.Core.Path.{_≡_, refl}
 use native.Mathlib.Omega.{arith}
 use borrow.Author.Tests.{ltb-true, leb-true, leb-false, eqb-false}
@@ -10,7 +11,7 @@ use lib.Dec.{eqb, leb, ltb}
 use Rattle.catalogue.specs.Tests.{pick, eqZ}
 use Rattle.catalogue.specs.Numbers.{room, head, edge-pool}
 use Rattle.catalogue.specs.Catalogue.{Catalogue, vertex-link, first-link, edge-key, edge-link, edge-target, at-mark}
-use Rattle.catalogue.specs.Workers.{has, request-of, front-of}
+use Rattle.catalogue.specs.Workers.{has, request-of, ahead}
 use Rattle.catalogue.specs.Steps.Places.{key-refused}
 use Rattle.catalogue.specs.Steps.Both.{see-both, at-both}
 use Rattle.catalogue.specs.Steps.Vertices.{new-vertex, settle-add-vertex, settle-remove-vertex, settle-vertex, start-again, decide-vertex, look-at-vertex, step-vertex}
@@ -23,6 +24,9 @@ use Rattle.catalogue.specs.declared.links.VertexLink.{VertexLink}
 use Rattle.catalogue.specs.declared.links.EdgeLink.the-variants as edge
 use Rattle.catalogue.specs.declared.links.Room.{Room}
 use Rattle.catalogue.specs.declared.links.Room.the-variants as room
+use Rattle.catalogue.specs.declared.workers.Ahead.{Ahead}
+use Rattle.catalogue.specs.declared.workers.Ends.{Ends}
+use Rattle.catalogue.specs.declared.workers.Pair.{Pair}
 use Rattle.catalogue.specs.declared.workers.Place.{Place}
 use Rattle.catalogue.specs.declared.workers.Place.the-variants.{Idle, AddV, RemV, ConV, AddEFindU, RemEFindU, ConEFindU, AddEFindV, RemEFindV, ConEFindV, AddE, RemE, ConE, Trial, TrialOpen}
 use Rattle.catalogue.specs.declared.workers.Prev.{Prev}
@@ -34,11 +38,11 @@ use Rattle.catalogue.specs.declared.steps.VertexSeen.{VertexSeen}
 use Rattle.catalogue.specs.declared.steps.VertexSeen.the-variants as seen
 use Rattle.catalogue.specs.declared.steps.VertexFound.{VertexFound}
 use Rattle.catalogue.specs.declared.steps.VertexFound.the-variants as found
+use Rattle.catalogue.specs.declared.steps.Landed.{Landed}
 use Rattle.catalogue.specs.declared.steps.EdgeSeen.{EdgeSeen}
 use Rattle.catalogue.specs.declared.steps.EdgeSeen.the-variants as sees
 use Rattle.catalogue.specs.declared.steps.Decision.{Decision}
-use Rattle.catalogue.specs.declared.steps.Decision.the-variants.{Torn}
-use Rattle.laws.proofs.Picks.{clash, pick-both, vertex-both, edge-both, target-both}
+use Rattle.laws.proofs.Picks.{clash, both-true, pick-both, vertex-both, edge-both, target-both}
 use Rattle.steps.specs.Follows.{Follows}
 use Rattle.laws.proofs.Pools.{edge-in-pool, Handed, handed}
 
@@ -64,11 +68,11 @@ Sees p c sees.Again = Unit {0}
 Sees p c (sees.Unlinks kept next) = Behind p
 Sees p c (sees.Marks next) = c < edge-pool
 Sees p c (sees.Onward next) = Unit {0}
-Sees p c (sees.Settles kept next tag equal) = Behind p × (c < edge-pool)
+Sees p c (sees.Settles at) = Behind p × (c < edge-pool)
 
 behind : (C : Catalogue) (u to tag : ℕ) (p : Prev) → link-behind C u p ≡ edge.At to tag → Behind p
 behind C u to tag First e = tt
-behind C u to tag (Edge p) e = edge-in-pool (C .elink) p to tag (edge-link C p) refl e
+behind C u to tag (Edge p) e = edge-in-pool (C .edges .link) p to tag (edge-link C p) refl e
 
 module _ (C : Catalogue) (l : ℤ) (p : Prev) (c : ℕ) (b : Behind p) (h : c < edge-pool) where
   see-key-sees : (kept next tag : ℕ) → Sees p c (see-key C l c kept next tag)
@@ -87,33 +91,33 @@ module _ (C : Catalogue) (l : ℤ) (p : Prev) (c : ℕ) (b : Behind p) (h : c < 
       (λ a. target-both (Sees p c) (edge-target C c) _ _ tt (λ y t. mark-both (Sees p c) (vertex-link C y) _ _ _ tt h (see-key-sees kept next tag)))
       (λ a. see-key-sees kept next tag))))
 
-look-sees : (C : Catalogue) (l : ℤ) (u v : ℕ) (p : Prev) (c : ℕ) → Sees p c (look-at-edge C l u v p c)
+look-sees : (C : Catalogue) (ends : Ends) (p : Prev) (c : ℕ) → Sees p c (look-at-edge C ends p c)
 unfolding look-at-edge see-behind
-look-sees C l u v p c =
-    both-both (Sees p c) (see-both C u v) _ _ _ tt tt
-    (λ s. edge-both (Sees p c) (link-behind C u p) _ _ tt
+look-sees C ends p c =
+    both-both (Sees p c) (see-both C (ends .u) (ends .v)) _ _ _ tt tt
+    (λ s. edge-both (Sees p c) (link-behind C (ends .u) p) _ _ tt
     (λ to tag e. pick-both (Sees p c) (eqb tag 1) _ _ (λ f. tt)
     (λ f. pick-both (Sees p c) (ltb c 2048) _ _
     (λ g. pick-both (Sees p c) (eqb to c) _ _
-    (λ a. see-edge-sees C l p c (behind C u to tag p e) (ltb-true c 2048 g) tag)
+    (λ a. see-edge-sees C (ends .pair .l) p c (behind C (ends .u) to tag p e) (ltb-true c 2048 g) tag)
     (λ a. tt))
     (λ g. tt))))
 
 -- the queue's ends are in order where a trial goes on
-ends-in-order : (C : Catalogue) (front back u v : ℕ) → see-trial C front back u v ≡ both.Standing → (front ≤ back) × (back ≤ 256)
+ends-in-order : (C : Catalogue) (a : Ahead) (ends : Ends) → see-trial C a ends ≡ both.Standing → (a .front ≤ a .back) × (a .back ≤ 256)
 unfolding see-trial ends-fit
-ends-in-order C front back u v e =
-    pick-both (λ b. b ≡ both.Standing → (front ≤ back) × (back ≤ 256)) (pick (leb front back) (leb back 256) false) _ _
-    (λ t. λ s. fits t) (λ t. λ s. clash (cc)) e
-  where
-    fits : pick (leb front back) (leb back 256) false ≡ true → (front ≤ back) × (back ≤ 256)
-    fits = pick-both (λ b. b ≡ true → (front ≤ back) × (back ≤ 256)) (leb front back) (leb back 256) false (λ t. λ s. (leb-true _ _ t, leb-true _ _ s)) (λ t. λ s. clash (cc))
+ends-in-order C a ends e =
+    pick-both (λ b. b ≡ both.Standing → (a .front ≤ a .back) × (a .back ≤ 256)) (pick (leb (a .front) (a .back)) (leb (a .back) 256) false) _ _
+    (λ t. λ s. let h = both-true (leb (a .front) (a .back)) (leb (a .back) 256) t in (leb-true _ _ (h .0), leb-true _ _ (h .1))) (λ t. λ s. clash (cc)) e
 
 -- ---- the decisions, file by file
 
 module _ (C : Catalogue) (w : Worker) where
   abbrev Ok : Decision → Type 0
   Ok = Follows w
+
+  abbrev a : Ahead
+  a = ahead (w .reach)
 
   new-vertex-ok : (k : ℤ) (p c : ℕ) (r : Room) → Handed 254 2 r → Ok (new-vertex r k p c)
   new-vertex-ok k p c (room.Next n) h = h .0
@@ -124,7 +128,7 @@ module _ (C : Catalogue) (w : Worker) where
   unfolding settle-vertex settle-add-vertex settle-remove-vertex
   settle-vertex-ok code k p c next equal =
       pick-both Ok (eqb code 1) _ _
-      (λ e. pick-both Ok equal _ _ (λ f. tt) (λ f. new-vertex-ok k p c (room 254 2 (C .vertices-out)) (handed 254 2 (C .vertices-out))))
+      (λ e. pick-both Ok equal _ _ (λ f. tt) (λ f. new-vertex-ok k p c (room 254 2 (C .counts .vertices)) (handed 254 2 (C .counts .vertices))))
       (λ e. pick-both Ok (eqb code 2) _ _ (λ f. pick-both Ok equal _ _ (λ g. tt) (λ g. tt)) (λ f. tt))
 
   decide-vertex-ok : (code : ℕ) (k : ℤ) (p c : ℕ) (s : VertexSeen) → Ok (decide-vertex C code k p c s)
@@ -141,105 +145,105 @@ module _ (C : Catalogue) (w : Worker) where
   decide-contains-ok k found.Found = tt
   decide-contains-ok k found.Missing = tt
 
-  decide-find-u-ok : (code : ℕ) (k l : ℤ) (c : ℕ) (s : VertexFound) → Ok (decide-find-u C code k l c s)
+  decide-find-u-ok : (code : ℕ) (pair : Pair) (c : ℕ) (s : VertexFound) → Ok (decide-find-u C code pair c s)
   unfolding found-u
-  decide-find-u-ok code k l c found.Torn = tt
-  decide-find-u-ok code k l c (found.Onward next) = tt
-  decide-find-u-ok code k l c found.Found = vertex-both Ok (vertex-link C head) _ _ tt (λ first tag e. tt)
-  decide-find-u-ok code k l c found.Missing = tt
+  decide-find-u-ok code pair c found.Torn = tt
+  decide-find-u-ok code pair c (found.Onward next) = tt
+  decide-find-u-ok code pair c found.Found = vertex-both Ok (vertex-link C head) _ _ tt (λ first tag e. tt)
+  decide-find-u-ok code pair c found.Missing = tt
 
-  decide-find-v-ok : (code : ℕ) (k l : ℤ) (u c : ℕ) (s : VertexFound) → Ok (decide-find-v C code k l u c s)
+  decide-find-v-ok : (code : ℕ) (pair : Pair) (u c : ℕ) (s : VertexFound) → Ok (decide-find-v C code pair u c s)
   unfolding found-v
-  decide-find-v-ok code k l u c found.Torn = tt
-  decide-find-v-ok code k l u c (found.Onward next) = tt
-  decide-find-v-ok code k l u c found.Found = edge-both Ok (first-link C u) _ _ tt (λ first tag e. tt)
-  decide-find-v-ok code k l u c found.Missing = tt
+  decide-find-v-ok code pair u c found.Torn = tt
+  decide-find-v-ok code pair u c (found.Onward next) = tt
+  decide-find-v-ok code pair u c found.Found = edge-both Ok (first-link C u) _ _ tt (λ first tag e. tt)
+  decide-find-v-ok code pair u c found.Missing = tt
 
-  step-contains-edge-ok : (k l : ℤ) (u v c : ℕ) → Ok (step-contains-edge C k l u v c)
+  step-contains-edge-ok : (ends : Ends) (c : ℕ) → Ok (step-contains-edge C ends c)
   unfolding step-contains-edge settle-contains-edge
-  step-contains-edge-ok k l u v c =
+  step-contains-edge-ok ends c =
       pick-both Ok (ltb c 2048) _ _
-      (λ e. pick-both Ok (ltZ (edge-key C c) l) _ _ (λ f. edge-both Ok (edge-link C c) _ _ tt (λ next tag g. tt))
-      (λ f. pick-both Ok (eqZ (edge-key C c) l) _ _
+      (λ e. pick-both Ok (ltZ (edge-key C c) (ends .pair .l)) _ _ (λ f. edge-both Ok (edge-link C c) _ _ tt (λ next tag g. tt))
+      (λ f. pick-both Ok (eqZ (edge-key C c) (ends .pair .l)) _ _
       (λ g. edge-both Ok (edge-link C c) _ _ tt
       (λ next tag a. pick-both Ok (eqb tag 3) _ _
       (λ b. target-both Ok (edge-target C c) _ _ tt
-      (λ y d. pick-both Ok (eqb y v) _ _ (λ x. both-both Ok (see-both C u v) _ _ _ tt tt (λ s. tt)) (λ x. tt)))
+      (λ y d. pick-both Ok (eqb y (ends .v)) _ _ (λ x. both-both Ok (see-both C (ends .u) (ends .v)) _ _ _ tt tt (λ s. tt)) (λ x. tt)))
       (λ b. tt)))
       (λ g. tt)))
       (λ e. tt)
 
-  new-edge-ok : (k l : ℤ) (u v : ℕ) (p : Prev) (c kept : ℕ) (r : Room) → Behind p → Handed 2047 1 r → Ok (new-edge r k l u v p c kept)
-  new-edge-ok k l u v First c kept (room.Next n) b h = h .1
-  new-edge-ok k l u v (Edge p) c kept (room.Next n) b h = (h .1, b)
-  new-edge-ok k l u v p c kept room.Full b h = tt
-  new-edge-ok k l u v p c kept room.Torn b h = tt
+  new-edge-ok : (ends : Ends) (p : Prev) (c kept : ℕ) (r : Room) → Behind p → Handed 2047 1 r → Ok (new-edge r ends p c kept)
+  new-edge-ok ends First c kept (room.Next n) b h = h .1
+  new-edge-ok ends (Edge p) c kept (room.Next n) b h = (h .1, b)
+  new-edge-ok ends p c kept room.Full b h = tt
+  new-edge-ok ends p c kept room.Torn b h = tt
 
-  settle-edge-ok : (code : ℕ) (k l : ℤ) (u v : ℕ) (p : Prev) (c kept next tag : ℕ) (equal : Bool) → Behind p → c < edge-pool → Ok (settle-edge C code k l u v p c kept next tag equal)
+  settle-edge-ok : (code : ℕ) (ends : Ends) (p : Prev) (c : ℕ) (at : Landed) → Behind p → c < edge-pool → Ok (settle-edge C code ends p c at)
   unfolding settle-edge settle-add-edge settle-remove-edge
-  settle-edge-ok code k l u v p c kept next tag equal b h =
+  settle-edge-ok code ends p c at b h =
       pick-both Ok (eqb code 4) _ _
-      (λ e. pick-both Ok equal _ _ (λ f. pick-both Ok (eqb tag 2) _ _ (λ g. tt) (λ g. tt))
-      (λ f. new-edge-ok k l u v p c kept (room 2047 1 (C .edges-out)) b (handed 2047 1 (C .edges-out))))
+      (λ e. pick-both Ok (at .equal) _ _ (λ f. pick-both Ok (eqb (at .tag) 2) _ _ (λ g. tt) (λ g. tt))
+      (λ f. new-edge-ok ends p c (at .kept) (room 2047 1 (C .counts .edges)) b (handed 2047 1 (C .counts .edges))))
       (λ e. pick-both Ok (eqb code 5) _ _
-      (λ f. pick-both Ok equal _ _ (λ g. pick-both Ok (eqb tag 3) _ _ (λ a. h) (λ a. tt)) (λ g. tt))
+      (λ f. pick-both Ok (at .equal) _ _ (λ g. pick-both Ok (eqb (at .tag) 3) _ _ (λ a. h) (λ a. tt)) (λ g. tt))
       (λ f. tt))
 
-  decide-edge-ok : (code : ℕ) (k l : ℤ) (u v : ℕ) (p : Prev) (c : ℕ) (s : EdgeSeen) → Sees p c s → Ok (decide-edge C code k l u v p c s)
+  decide-edge-ok : (code : ℕ) (ends : Ends) (p : Prev) (c : ℕ) (s : EdgeSeen) → Sees p c s → Ok (decide-edge C code ends p c s)
   unfolding restart
-  decide-edge-ok code k l u v p c sees.Torn h = tt
-  decide-edge-ok code k l u v p c sees.Dead h = tt
-  decide-edge-ok code k l u v p c sees.Again h = edge-both Ok (first-link C u) _ _ tt (λ first tag e. tt)
-  decide-edge-ok code k l u v First c (sees.Unlinks kept next) h = tt
-  decide-edge-ok code k l u v (Edge p) c (sees.Unlinks kept next) h = h
-  decide-edge-ok code k l u v p c (sees.Marks next) h = h
-  decide-edge-ok code k l u v p c (sees.Onward next) h = tt
-  decide-edge-ok code k l u v p c (sees.Settles kept next tag equal) h = settle-edge-ok code k l u v p c kept next tag equal (h .0) (h .1)
+  decide-edge-ok code ends p c sees.Torn h = tt
+  decide-edge-ok code ends p c sees.Dead h = tt
+  decide-edge-ok code ends p c sees.Again h = edge-both Ok (first-link C (ends .u)) _ _ tt (λ first tag e. tt)
+  decide-edge-ok code ends First c (sees.Unlinks kept next) h = tt
+  decide-edge-ok code ends (Edge p) c (sees.Unlinks kept next) h = h
+  decide-edge-ok code ends p c (sees.Marks next) h = h
+  decide-edge-ok code ends p c (sees.Onward next) h = tt
+  decide-edge-ok code ends p c (sees.Settles at) h = settle-edge-ok code ends p c at (h .0) (h .1)
 
   end-trial-ok : (e tag reply : ℕ) → Ok (end-trial C e tag reply)
   unfolding end-trial
-  end-trial-ok e tag reply = edge-both Ok (edge-link C e) _ _ tt (λ next old f. edge-in-pool (C .elink) e next old (edge-link C e) refl f)
+  end-trial-ok e tag reply = edge-both Ok (edge-link C e) _ _ tt (λ next old f. edge-in-pool (C .edges .link) e next old (edge-link C e) refl f)
 
-  trial-open-ok : (k l : ℤ) (u v e x c : ℕ) → Ok (trial-open C (w .met) (w .front) (w .back) k l u v e x c)
+  trial-open-ok : (ends : Ends) (e x c : ℕ) → Ok (trial-open C a ends e x c)
   unfolding trial-open step-open pass-edge cross
-  trial-open-ok k l u v e x c =
-      both-both Ok (see-trial C (w .front) (w .back) u v) _ _ _ tt (end-trial-ok e 1 3)
+  trial-open-ok ends e x c =
+      both-both Ok (see-trial C a ends) _ _ _ tt (end-trial-ok e 1 3)
       (λ s. mark-both Ok (vertex-link C x) _ _ _ tt tt
       (pick-both Ok (eqb c 0) _ _ (λ f. tt)
       (λ f. edge-both Ok (edge-link C c) _ _ tt
-      (λ next tag g. pick-both Ok (eqb tag 1) _ _ (λ a. tt)
-      (λ a. target-both Ok (edge-target C c) _ _ tt
+      (λ next tag g. pick-both Ok (eqb tag 1) _ _ (λ i. tt)
+      (λ i. target-both Ok (edge-target C c) _ _ tt
       (λ y b. mark-both Ok (vertex-link C y) _ _ _ tt tt
-      (pick-both Ok (has (w .met) y) _ _ (λ d. tt)
-      (λ d. pick-both Ok (leb 256 (w .back)) _ _ (λ h. tt) (λ h. (leb-false 256 (w .back) h, d))))))))))
+      (pick-both Ok (has (a .met) y) _ _ (λ d. tt)
+      (λ d. pick-both Ok (leb 256 (a .back)) _ _ (λ h. tt) (λ h. (leb-false 256 (a .back) h, d))))))))))
 
-  trial-shut-ok : (x : ℕ) (k l : ℤ) (u v e : ℕ) → Ok (trial-shut C x (w .front) (w .back) k l u v e)
+  trial-shut-ok : (ends : Ends) (e : ℕ) → Ok (trial-shut C a ends e)
   unfolding trial-shut step-shut take-front
-  trial-shut-ok x k l u v e =
-      both-both Ok (see-trial C (w .front) (w .back) u v) _ _ _ tt (end-trial-ok e 1 3)
-      (λ s. pick-both Ok (eqb (w .front) (w .back)) _ _ (λ f. end-trial-ok e 3 1)
-      (λ f. let below : w .front < 256 = omega (arith, ends-in-order C (w .front) (w .back) u v s, eqb-false (w .front) (w .back) f) in
-      pick-both Ok (eqb x u) _ _ (λ g. end-trial-ok e 1 6)
-      (λ g. mark-both Ok (vertex-link C x) _ _ _ tt below (edge-both Ok (first-link C x) _ _ tt (λ c tag a. below)))))
+  trial-shut-ok ends e =
+      both-both Ok (see-trial C a ends) _ _ _ tt (end-trial-ok e 1 3)
+      (λ s. pick-both Ok (eqb (a .front) (a .back)) _ _ (λ f. end-trial-ok e 3 1)
+      (λ f. let below : a .front < 256 = omega (arith, ends-in-order C a ends s, eqb-false (a .front) (a .back) f) in
+      pick-both Ok (eqb (a .x) (ends .u)) _ _ (λ g. end-trial-ok e 1 6)
+      (λ g. mark-both Ok (vertex-link C (a .x)) _ _ _ tt below (edge-both Ok (first-link C (a .x)) _ _ tt (λ c tag h. below)))))
 
-  step-at-ok : (place : Place) (x : ℕ) → Ok (step-at C place (w .met) x (w .front) (w .back))
+  step-at-ok : (place : Place) → Ok (step-at C place a)
   unfolding step-vertex step-contains step-find-u step-find-v step-edge
-  step-at-ok Idle x = tt
-  step-at-ok (AddV k p c) x = decide-vertex-ok 1 k p c (look-at-vertex C k p c)
-  step-at-ok (RemV k p c) x = decide-vertex-ok 2 k p c (look-at-vertex C k p c)
-  step-at-ok (ConV k c) x = decide-contains-ok k (look-for C k c)
-  step-at-ok (AddEFindU k l c) x = decide-find-u-ok 4 k l c (look-for C k c)
-  step-at-ok (RemEFindU k l c) x = decide-find-u-ok 5 k l c (look-for C k c)
-  step-at-ok (ConEFindU k l c) x = decide-find-u-ok 6 k l c (look-for C k c)
-  step-at-ok (AddEFindV k l u c) x = decide-find-v-ok 4 k l u c (look-for C l c)
-  step-at-ok (RemEFindV k l u c) x = decide-find-v-ok 5 k l u c (look-for C l c)
-  step-at-ok (ConEFindV k l u c) x = decide-find-v-ok 6 k l u c (look-for C l c)
-  step-at-ok (AddE k l u v p c) x = decide-edge-ok 4 k l u v p c (look-at-edge C l u v p c) (look-sees C l u v p c)
-  step-at-ok (RemE k l u v p c) x = decide-edge-ok 5 k l u v p c (look-at-edge C l u v p c) (look-sees C l u v p c)
-  step-at-ok (ConE k l u v c) x = step-contains-edge-ok k l u v c
-  step-at-ok (Trial k l u v e) x = trial-shut-ok x k l u v e
-  step-at-ok (TrialOpen k l u v e y c) x = trial-open-ok k l u v e y c
+  step-at-ok Idle = tt
+  step-at-ok (AddV k p c) = decide-vertex-ok 1 k p c (look-at-vertex C k p c)
+  step-at-ok (RemV k p c) = decide-vertex-ok 2 k p c (look-at-vertex C k p c)
+  step-at-ok (ConV k c) = decide-contains-ok k (look-for C k c)
+  step-at-ok (AddEFindU pair c) = decide-find-u-ok 4 pair c (look-for C (pair .k) c)
+  step-at-ok (RemEFindU pair c) = decide-find-u-ok 5 pair c (look-for C (pair .k) c)
+  step-at-ok (ConEFindU pair c) = decide-find-u-ok 6 pair c (look-for C (pair .k) c)
+  step-at-ok (AddEFindV pair u c) = decide-find-v-ok 4 pair u c (look-for C (pair .l) c)
+  step-at-ok (RemEFindV pair u c) = decide-find-v-ok 5 pair u c (look-for C (pair .l) c)
+  step-at-ok (ConEFindV pair u c) = decide-find-v-ok 6 pair u c (look-for C (pair .l) c)
+  step-at-ok (AddE ends p c) = decide-edge-ok 4 ends p c (look-at-edge C ends p c) (look-sees C ends p c)
+  step-at-ok (RemE ends p c) = decide-edge-ok 5 ends p c (look-at-edge C ends p c) (look-sees C ends p c)
+  step-at-ok (ConE ends c) = step-contains-edge-ok ends c
+  step-at-ok (Trial ends e) = trial-shut-ok ends e
+  step-at-ok (TrialOpen ends e x c) = trial-open-ok ends e x c
 
   pub decide-follows : Follows w (decide C w)
   unfolding decide-at
-  decide-follows = pick-both Ok (key-refused (request-of (w .place) .code) (request-of (w .place) .k) (request-of (w .place) .l)) _ _ (λ e. tt) (λ e. step-at-ok (w .place) (front-of w))
+  decide-follows = pick-both Ok (key-refused (request-of (w .place))) _ _ (λ e. tt) (λ e. step-at-ok (w .place))

@@ -1,5 +1,5 @@
--- What a decision asks for to be carried out: numbers of its write that lie in their pools, room in the queue for a vertex not yet met, or a front to take.
--- Every decision that is made of a record is such a one.
+-- What a decision needs, by its case: a write within the pools, queue room for a vertex not yet met, or a front.
+-- Every decision that is made of a record has it.
 use Prim.Native.Nat.{_<_}
 use mathlib.Core.Bool.{false}
 use mathlib.Core.Path.{_≡_}
@@ -15,6 +15,6 @@ Follows w Code = Unit {0}
 Follows w (Going next write) = Writable write
 Follows w (Begins next write v) = Writable write
 Follows w (Keeps next) = Unit {0}
-Follows w (Meets next y) = (w .back < 256) × (has (w .met) y ≡ false)
-Follows w (Takes next) = w .front < 256
+Follows w (Meets next y) = (w .reach .back < 256) × (has (w .reach .met) y ≡ false)
+Follows w (Takes next) = w .reach .front < 256
 Follows w (Reply number write) = Writable write

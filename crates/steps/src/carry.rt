@@ -1,4 +1,4 @@
-// A decision carried out: on the record, and told as an answer.
+// A decision carried out: on the record, and as an answer.
 ghost use mathlib.Core.Path.{_≡_};
 ghost use Rattle.catalogue.specs.Steps.Decide.{record-after, write-of, going, answer-of};
 ghost use Rattle.steps.specs.Follows.{Follows};
@@ -15,7 +15,7 @@ use workers::records::kept;
 use workers::records::queued;
 use workers::records::taken;
 
-// The record after the step; a refusal leaves it.
+// The record after the step; unchanged by a refusal.
 pub fn record_after(w: Worker, d: Decision) -> Worker
     requires { ⌜ Follows w d ⌝ }
     ensures { λ r. ⌜ r ≡ record-after w d ⌝ }
@@ -63,7 +63,7 @@ pub fn write_of(d: Decision) -> Write
 fn going(after: Worker) -> Answer
     ensures { λ r. ⌜ r ≡ going after ⌝ }
 {
-    let met = after.met;
+    let met = after.reach.met;
     Answer::Going {
         met: met_count(met),
     }

@@ -1,4 +1,4 @@
--- What the walk over the live vertices finds from a vertex on, by its list and by what the walk finds from the next on.
+-- What the walk over the live vertices finds from a vertex on, by its list and by what it finds from the next on.
 use Prim.Native.Nat.{ℕ, _+_, _*_, _-_, _≤_}
 use mathlib.Core.Bool.{Bool, true, false}
 use mathlib.Core.List.{List, [], _∷_, _++_}
@@ -22,7 +22,7 @@ use Rattle.survey.specs.Walks.{within, edges-at, lists-from}
 use Rattle.survey.specs.declared.edges.Edges.{Edges}
 use Rattle.survey.specs.declared.edges.Edges.the-variants as edges
 
--- what a list of edges tells of the vertex
+-- what a sound result for a list of edges says of it
 told-sound : (t : Bool) (n live : ℕ) → pick t (edges.Sound n) edges.Unsound ≡ edges.Sound live → (t ≡ true) × (live ≡ n)
 told-sound true n live e = (refl, cc)
 told-sound false n live e = clash (cc)

@@ -23,7 +23,7 @@ use Rattle.laws.proofs.MetLaws.{with-met-same, with-met-other, none-met}
 use Rattle.survey.specs.Walks.{also-met, met-of, found, walk-from, Ready}
 use Rattle.survey.specs.declared.walks.Walked.{Walked}
 
--- a set of four words stays one
+-- a set of four words has four words after it too
 also-length : (met : List ℕ) (n : ℕ) → length met ≡ 4 → length (also-met met n) ≡ 4
 unfolding also-met with-met
 also-length met n h = pick-both (λ m. length m ≡ 4) (has met n) met (with-met met n) (λ e. h) (λ e. length-set met (n / 64) (getD met (n / 64) 0 + 2 ^ (n % 64)) ∙ h)
@@ -55,7 +55,7 @@ met-member test (x ∷ l) y e h =
 vertices-low : (C : Catalogue) → All (λ x. x < 256) (vertices C)
 vertices-low C =
     all-each (λ x. (x < 256) × (x ≡ tail → ⊥)) (λ x. x < 256) (λ x h. h .0) (vertices C)
-    (walk-within (next-vertex C) tail 256 256 (next-vertex C head) (vertex-goes (C .vlink)) (vertex-goes (C .vlink) head))
+    (walk-within (next-vertex C) tail 256 256 (next-vertex C head) (vertex-goes (C .vertices .link)) (vertex-goes (C .vertices .link) head))
 
 -- so the set of a sound walk is ready to answer for targets
 pub ready : (keys : List ℤ) (words : List ℕ) (y : ℕ) (w : Walked)

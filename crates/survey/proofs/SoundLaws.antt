@@ -9,8 +9,9 @@ use lib.ListN.{length}
 use Rattle.catalogue.specs.Tests.{pick, every}
 use Rattle.catalogue.specs.Numbers.{head, tail, vertex-pool, most-edges}
 use Rattle.catalogue.specs.Catalogue.{Catalogue}
-use Rattle.catalogue.specs.Live.{walk, next-vertex, vertices, unmarked, live-vertices, live-edges-of, gather}
+use Rattle.catalogue.specs.Live.{walk, next-vertex, vertices, unmarked, live-vertices, live-edges-of, live-edges, gather}
 use Rattle.catalogue.specs.Soundness.{Asks, vertex-sound, edges-sound, sound}
+use Rattle.laws.proofs.Gathers.{live-many}
 use Rattle.survey.proofs.MetLaws.{ready}
 use Rattle.survey.specs.Walks.{walk-from, lists-from}
 use Rattle.survey.specs.declared.walks.Walked.{Walked}
@@ -25,7 +26,7 @@ module _ (asks : Asks) (C : Catalogue) where
   sound-is =
       let n = length (gather (live-edges-of C) (live-vertices C)) in
       ap (λ (k : ℕ). whole (unmarked C head) (vertex-sound C head) (every (vertex-sound C) (vertices C)) (pick (every (edges-sound asks C) (live-vertices C)) (leb k most-edges) false))
-      (let e : 0 + n ≡ n = omega arith in e)
+      (let e : 0 + n ≡ length (live-edges C) = omega (arith, live-many (live-edges-of C) (live-vertices C)) in e)
 
   by-parts : (free first others lists : Bool) → free ≡ unmarked C head → first ≡ vertex-sound C head → others ≡ every (vertex-sound C) (vertices C)
       → lists ≡ lists-from asks C 0 256 (next-vertex C head) → whole free first others lists ≡ sound asks C

@@ -1,4 +1,4 @@
--- What a test that was a call tells, and a key that was read twice.
+-- What a test that was a call says, and a key that was read twice.
 use Prim.Native.Nat.{ℕ}
 use mathlib.Core.Bool.{Bool, true, false}
 use mathlib.Core.List.{List}
@@ -24,7 +24,7 @@ module _ {A : Type 0} (x : A) (t r : Bool) (a b : A) (e : r ≡ t) where
   pub told-false : r ≡ false → x ≡ b → x ≡ pick t a b
   told-false q h = rw (sym e ∙ q) h
 
--- the flag that says who asks was tested
+-- the flag that says which call asks was tested
 module _ (r : Bool) (tag : ℕ) (asked : Bool) where
   pub sweep-fits : asked ≡ true → r ≡ tag-fits sweep tag → r ≡ tag-fits (asks-of asked) tag
   sweep-fits e q = rw e q

@@ -1,4 +1,4 @@
--- What the walks of the survey find from a node on, with so much of the walk left; and who asks, by a flag.
+-- What the walks of the survey find from a node on, with so much of the walk left; and which call asks, by a flag.
 use Prim.Native.Nat.{ℕ, _+_, _<_}
 use mathlib.Core.Bool.{Bool, true, false}
 use mathlib.Core.List.{List, [], _∷_}
@@ -35,12 +35,12 @@ pub record Ready (keys : List ℤ) (words met : List ℕ) : Type 0 where
 unfoldable pub also-met : List ℕ → ℕ → List ℕ
 also-met met n = pick (has met n) met (with-met met n)
 
--- the members of a list as a set; nobody where one does not pass
+-- the members of a list before the first that does not pass, as a set
 unfoldable pub met-of : (ℕ → Bool) → List ℕ → List ℕ
 met-of test [] = replicate 4 0
 met-of test (x ∷ xs) = pick (test x) (also-met (met-of test xs) x) (replicate 4 0)
 
--- What a walk finds of a list of vertices: whether all pass, and who they are.
+-- What a walk finds of a list of vertices: whether all pass, and which they are.
 abbrev pub found : (ℕ → Bool) → List ℕ → Walked
 found test l = record { sound = every test l; met = met-of test l }
 
@@ -60,7 +60,8 @@ edges-from asks C n left e = counted (edge-sound asks C) (is-live C) n (walk (ne
 unfoldable pub edges-at : Asks → Catalogue → ℕ → Edges
 edges-at asks C x = pick (edges-sound asks C x) (edges.Sound (length (live-edges-of C x))) edges.Unsound
 
--- What a walk finds of a list of vertices by their lists: whether all pass, and n and what they hold together are within the limit.
+-- What a walk finds of vertices by their lists: whether all pass,
+-- and n and what they hold together are within the limit.
 abbrev pub within : (ℕ → Bool) → (ℕ → List ℕ) → ℕ → List ℕ → Bool
 within test holds n l = pick (every test l) (leb (n + length (gather holds l)) most-edges) false
 

@@ -13,7 +13,7 @@ pub struct Walked {
     pub met: [u64; 4],
 }
 
-// In memory that nobody vouches for a walk may meet a vertex twice.
+// In unchecked memory a walk may meet a vertex twice.
 fn also_met(met: [u64; 4], n: u8) -> [u64; 4]
     ensures { λ r. ⌜ r ≡ also-met met n ⌝ }
 {

@@ -1,4 +1,4 @@
--- One node made anew, by what each callee leaves and the test answers.
+-- One node made anew, by the memory after each callee and the result of the test.
 use Prim.Native.Nat.{ℕ, _+_, _≤_, _<_}
 use mathlib.Core.Bool.{Bool, true, false}
 use mathlib.Core.Path.{_≡_, refl, sym, ap, _∙_}
@@ -18,7 +18,7 @@ pub vertex-copied : (m m′ : Memory) (n : ℕ) (key key′ read : ℤ) → key�
     → m′ ≡ committed m (vertex-write n read)
 vertex-copied m m′ n key key′ read same here made = made ∙ ap (λ k. committed m (vertex-write n k)) (same ∙ here)
 
--- an edge, by the answer r of its test
+-- an edge, by the result r of its test
 module _ (t r : Bool) (q : r ≡ t) (tip : Tip) where
   module _ (h : r ≡ true) where
     pub edge-copied : (m m′ : Memory) (key key′ read : ℤ) (target number : ℕ) → key′ ≡ key → key ≡ read → target ≡ number

@@ -1,4 +1,4 @@
--- The first edge of each source, where one more edge stands behind the others.
+-- The first edge of each source, where one more edge stands after the others.
 use Prim.Native.Nat.{ℕ, suc, _+_, _<_, _≤_}
 use mathlib.Core.List.{List, [], _∷_, _++_}
 use mathlib.Core.Logic.{inl, inr}
@@ -10,7 +10,7 @@ use Rattle.catalogue.specs.Numbers.{edge-tail}
 use Rattle.catalogue.specs.Sweep.{Swept-edge, first-of}
 use Rattle.laws.proofs.Cases.{same?}
 use Rattle.laws.proofs.Members.{all-each}
-use Rattle.resting.specs.Blocks.{sees, passes}
+use Rattle.resting.proofs.Blocks.{sees, passes}
 use Rattle.sweep.proofs.Sources.{Below}
 
 -- the first edge of a source, by the edges' order

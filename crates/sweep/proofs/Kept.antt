@@ -1,4 +1,5 @@
--- A walk with fuel by the cases of its recursion, under any function of the nodes that it keeps: their number, the room for them, or what is built of them.
+-- A walk with fuel by the cases of its recursion, under any function of the nodes that it keeps.
+-- Such are their number, the room for them, and what is built of them.
 use Prim.Native.Nat.{ℕ, _+_, _-_, _≤_, _<_}
 use mathlib.Core.Bool.{Bool, true, false}
 use mathlib.Core.List.{List, [], _∷_}

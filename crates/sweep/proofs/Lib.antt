@@ -1,4 +1,5 @@
--- Laws that the proofs of this crate share: first those of the code's cases, then that what the walks build is the second catalogue.
+-- Laws that the proofs of this crate share: first those of the code's cases,
+-- then that what the walks build is the second catalogue.
 pub mod Busy
 pub mod NodeLaws
 pub mod CopyLaws
@@ -8,7 +9,6 @@ pub mod EdgeCases
 pub mod ListCases
 pub mod Refusals
 pub mod Ends
-pub mod Swept
 pub mod VertexLists
 pub mod Sources
 pub mod FirstEdges

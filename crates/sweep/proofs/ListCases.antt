@@ -2,7 +2,7 @@
 use Prim.Native.Nat.{ℕ, _+_, _-_, _≤_}
 use mathlib.Core.Bool.{Bool, true, false}
 use mathlib.Core.List.{List}
-use mathlib.Core.Path.{_≡_, sym, ap, _∙_}
+use mathlib.Core.Path.{_≡_, ap, _∙_}
 use native.Mathlib.Omega.{arith}
 use borrow.Author.Needs.{needs}
 use lib.IntN.{ℤ}
@@ -10,7 +10,7 @@ use lib.ListN.{length, length-append}
 use Rattle.catalogue.specs.Lent.{Memory}
 use Rattle.catalogue.specs.Live.{gather}
 use Rattle.listing.specs.Walks.{kept-from}
-use Rattle.laws.proofs.Gathers.{gather-first}
+use Rattle.listing.proofs.Kept.{gather-on, gather-off}
 use Rattle.sweep.specs.Built.{with-edges, with-lists}
 use Rattle.sweep.proofs.Kept.{none-built, end-built, left-built, kept-built}
 
@@ -50,14 +50,11 @@ module _ (next : ℕ → ℕ) (end : ℕ) (test : ℕ → Bool) (fuel x : ℕ) w
     -- room for the edges of a vertex, and for those of the rest
     module _ (edges : ℕ → List ℕ) (n : ℕ) (room : n + length (gather edges (kept fuel x)) ≤ 2047) where
       pub lists-left-room : r ≡ false → n + length (gather edges rest) ≤ 2047
-      lists-left-room h = omega (arith, left-built next end test fuel x y r some e q on (λ l. length (gather edges l)) h)
+      lists-left-room h = omega (arith, ap length (gather-off next end test edges fuel x y r some e q on h))
 
       module _ (h : r ≡ true) where
         both : length (gather edges (kept fuel x)) ≡ length (edges x) + length (gather edges rest)
-        both =
-            sym (kept-built next end test fuel x y r some e q on (λ l. length (gather edges l)) h)
-            ∙ ap length (gather-first edges x rest)
-            ∙ length-append (edges x) (gather edges rest)
+        both = ap length (gather-on next end test edges fuel x y r some e q on h) ∙ length-append (edges x) (gather edges rest)
 
         pub list-room : (here : List ℕ) → here ≡ edges x → n + length here ≤ 2047
         list-room here these = omega (arith, both, ap length these)

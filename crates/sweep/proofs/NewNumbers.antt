@@ -9,11 +9,11 @@ use lib.Seq.{getD-set-same, getD-set-other}
 use Rattle.catalogue.specs.Sweep.{position}
 use Rattle.laws.proofs.Members.{All, all-each, all-join}
 use Rattle.laws.proofs.Distinct.{Distinct}
-use Rattle.resting.specs.Rows.{Numbered}
-use Rattle.resting.specs.Places.{goes}
+use Rattle.resting.proofs.Rows.{Numbered}
+use Rattle.resting.proofs.Places.{goes}
 use Rattle.sweep.specs.Built.{numbered, number-of}
 
--- who is not in the list keeps what stood there
+-- a number that is not in the list keeps what stood there
 unnumbered : (l : List ℕ) (n : ℕ) (numbers : List ℕ) (y : ℕ) → All (λ x. x ≡ y → ⊥) l → number-of (numbered l n numbers) y ≡ number-of numbers y
 unfolding numbered
 unnumbered [] n numbers y h = refl

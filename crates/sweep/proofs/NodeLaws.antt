@@ -1,4 +1,4 @@
--- A new node, by the writes that make it: what each commit leaves is memory of the catalogue with the node.
+-- A new node, by the writes that make it: after the commits, memory is that of the catalogue with the node.
 use Prim.Native.Nat.{ℕ, _+_, _<_}
 use mathlib.Core.List.{List}
 use mathlib.Core.Path.{_≡_, sym, ap, _∙_, subst}
@@ -17,8 +17,8 @@ use Rattle.memory.specs.Memories.{Hold, Writable}
 use Rattle.sweep.specs.Built.{committed, last-vertex, vertex-write, edge-write, with-edge}
 
 -- two slices that hold a catalogue, as one memory
-pub held : (keys : List ℤ) (words : List ℕ) (C : Catalogue) → Hold keys words C → memory-of keys words ≡ lay C
-held keys words C h = λ i. record { keys = h .0 i; words = h .1 i }
+pub laid : (keys : List ℤ) (words : List ℕ) (C : Catalogue) → Hold keys words C → memory-of keys words ≡ lay C
+laid keys words C h = λ i. record { keys = h .0 i; words = h .1 i }
 
 -- A key comes to a callee through its bits, so there it is another number, equal to it.
 module _ (key key′ : ℤ) (same : key′ ≡ key) (n : ℕ) where
@@ -26,7 +26,7 @@ module _ (key key′ : ℤ) (same : key′ ≡ key) (n : ℕ) where
       → Hold keys′ words′ (commit (catalogue-in keys words) (NewVertex (2 + n) key′ 1 p))
       → memory-of keys′ words′ ≡ committed (memory-of keys words) (vertex-write n key)
   vertex-added keys keys′ words words′ p e h =
-      held keys′ words′ _ h ∙ ap (λ k. committed (memory-of keys words) (NewVertex (2 + n) k 1 p)) same
+      laid keys′ words′ _ h ∙ ap (λ k. committed (memory-of keys words) (NewVertex (2 + n) k 1 p)) same
       ∙ ap (λ q. committed (memory-of keys words) (NewVertex (2 + n) key 1 q)) e
 
   module _ (target source p : ℕ) where
@@ -42,8 +42,8 @@ module _ (key key′ : ℤ) (same : key′ ≡ key) (n : ℕ) where
         → Hold k₁ w₁ (commit (catalogue-in k₀ w₀) w) → Hold k₂ w₂ (commit (catalogue-in k₁ w₁) (EdgeLink (1 + n) 0 3))
         → memory-of k₂ w₂ ≡ with-edge n key target source p (memory-of k₀ w₀)
     edge-added w k₀ k₁ k₂ w₀ w₁ w₂ e first last =
-        held k₂ w₂ _ last ∙ ap (λ m. committed m (EdgeLink (1 + n) 0 3))
-        (held k₁ w₁ _ first ∙ ap (committed (memory-of k₀ w₀)) (e ∙ ap (λ k. edge-write n k target source p) same))
+        laid k₂ w₂ _ last ∙ ap (λ m. committed m (EdgeLink (1 + n) 0 3))
+        (laid k₁ w₁ _ first ∙ ap (committed (memory-of k₀ w₀)) (e ∙ ap (λ k. edge-write n k target source p) same))
 
 pub edge-writable : (n : ℕ) (key : ℤ) (target source p : ℕ) (w : Write) → w ≡ edge-write n key target source p → n < 2047 → p < 2048 → Writable w
 unfolding edge-write

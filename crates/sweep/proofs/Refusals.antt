@@ -1,4 +1,5 @@
--- What a sweep leaves, by the checks on the way: each refusal is the case of the definition that its checks choose, and changes nothing.
+-- The memory after a sweep, by the checks on the way.
+-- Each refusal is the case of the definition that its checks choose, and changes nothing.
 use Prim.Native.Nat.{ℕ, _≤_}
 use mathlib.Core.Bool.{Bool, true, false}
 use mathlib.Core.List.{List}
@@ -20,7 +21,7 @@ use Rattle.catalogue.specs.declared.answers.Made.the-variants.{Done, Refused}
 use Rattle.laws.proofs.Picks.{both-true}
 use Rattle.memory.proofs.Laid.{view-held}
 use Rattle.sweep.specs.Promised.{Sweeps}
-use Rattle.sweep.proofs.NodeLaws.{held}
+use Rattle.sweep.proofs.NodeLaws.{laid}
 
 -- what the checks give
 pub count-low : (n : ℕ) (r : Bool) → r ≡ one-to 8 n → r ≡ true → n ≤ 8
@@ -65,13 +66,13 @@ module _ (C D : Catalogue) (t : Table) where
   pub refused-answer : (why : Refusal) → sweep-into C D t ≡ refuse-sweep D why → Refused why ≡ sweep-into C D t .answer
   refused-answer why e = sym (ap (λ a. a .answer) e)
 
--- a refusal leaves the second memory as it was
+-- after a refusal the second memory is unchanged
 module _ (C : Catalogue) (t : Table) (keys : List ℤ) (words : List ℕ) (z : Sized keys words) where
   abbrev D : Catalogue
   D = catalogue-in keys words
 
   left : (why : Refusal) → sweep-into C D t ≡ refuse-sweep D why → memory-of keys words ≡ lay (sweep-into C D t .second)
-  left why e = held keys words D (view-held keys words (z .keyed) (z .worded)) ∙ sym (ap (λ a. lay (a .second)) e)
+  left why e = laid keys words D (view-held keys words (z .keyed) (z .worded)) ∙ sym (ap (λ a. lay (a .second)) e)
 
   pub count-left : (r : Bool) → r ≡ one-to 8 (t .count) → r ≡ false → memory-of keys words ≡ lay (sweep-into C D t .second)
   count-left r e q = left refusal.Worker (count-refused C D t r e q)

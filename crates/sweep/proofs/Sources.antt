@@ -1,4 +1,5 @@
--- The sources of the edges by number, and the links that they make: an edge leads to the next one where that has the same source.
+-- The sources of the edges by number, and the links that they make.
+-- An edge leads to the next one where that has the same source.
 use Prim.Native.Nat.{ℕ, zero, suc, _+_, _<_, _≤_}
 use mathlib.Core.List.{List, [], _∷_, _++_, map, map-append}
 use mathlib.Core.Logic.{inl, inr}
@@ -9,11 +10,10 @@ use lib.ListN.{length, getD, length-append, length-map, List·getD-eq-default}
 use lib.Dec.{eqb}
 use Rattle.catalogue.specs.Tests.{pick, upd}
 use Rattle.catalogue.specs.Numbers.{edge-tail, added, link}
-use Rattle.catalogue.specs.Sweep.{Swept-edge, source-at, next-swept-edge}
+use Rattle.catalogue.specs.Sweep.{Swept-edge, source-at, next-swept-edge, elink-of}
 use Rattle.laws.proofs.Members.{All, all-at, all-map}
 use Rattle.laws.proofs.Cases.{lt-or, upd-at, upd-other}
 use Rattle.sweep.proofs.Ends.{getD-end}
-use Rattle.sweep.proofs.Swept.{elink-of}
 
 abbrev source-of : Swept-edge → ℕ
 source-of d = d .source

@@ -14,12 +14,11 @@ use Rattle.catalogue.specs.Numbers.{head, tail, edge-tail, least, plain, link}
 use Rattle.catalogue.specs.Catalogue.{fresh}
 use Rattle.catalogue.specs.Writes.{commit}
 use Rattle.catalogue.specs.Lent.{lay}
-use Rattle.catalogue.specs.Sweep.{first-of, next-swept}
+use Rattle.catalogue.specs.Sweep.{first-of, next-swept, vlink-of, elink-of, held}
 use Rattle.laws.proofs.Cases.{same?, lt-or, upd-at, upd-other}
 use Rattle.sweep.specs.Built.{last-vertex, vertex-write, with-vertices}
 use Rattle.memory.proofs.Agrees.{Agree, lay-agree, committed-lay}
 use Rattle.sweep.proofs.Ends.{getD-end}
-use Rattle.sweep.proofs.Swept.{vlink-of, elink-of, swept-of}
 
 -- the links of n vertices, by number
 module _ (n i : ℕ) where
@@ -101,13 +100,13 @@ module _ (n m : ℕ) (more : m ≡ suc n) where
                 ]
           ]
 
--- nobody has edges yet
+-- no vertex has edges yet
 no-first : (n i : ℕ) → upd (λ j. link (first-of j [] 1) plain) n (link edge-tail plain) i ≡ link (first-of i [] 1) plain
 unfolding first-of upd
 no-first n i = elim (eqb i n) as (λ t. pick t (link edge-tail plain) (link edge-tail plain) ≡ link edge-tail plain) [ true ↦ refl | false ↦ refl ]
 
-vertex-agrees : (ks : List ℤ) (k : ℤ) → Agree (commit (swept-of ks []) (vertex-write (length ks) k)) (swept-of (ks ++ (k ∷ [])) [])
-unfolding commit
+vertex-agrees : (ks : List ℤ) (k : ℤ) → Agree (commit (held ks []) (vertex-write (length ks) k)) (held (ks ++ (k ∷ [])) [])
+unfolding commit held
 vertex-agrees ks k =
     let n = length ks in
     let long : length (ks ++ (k ∷ [])) ≡ suc n = omega (arith, length-append ks (k ∷ [])) in
@@ -123,8 +122,8 @@ vertex-agrees ks k =
     }
 
 -- the fresh catalogue is that of no vertices
-pub fresh-agrees : Agree fresh (swept-of [] [])
-unfolding first-of next-swept
+pub fresh-agrees : Agree fresh (held [] [])
+unfolding first-of next-swept held
 fresh-agrees = record {
   vertices = refl;
   edges = refl;
@@ -155,13 +154,13 @@ fresh-agrees = record {
     unlinked (suc i) = rw (le-leb 1 (suc i) (omega arith), lt-leb (suc i) 0 (omega arith)) refl
 
 pub vertices-laid : (keys : ℕ → ℤ) (l : List ℕ) (ks : List ℤ) (n : ℕ) → n ≡ length ks
-    → with-vertices keys l n (lay (swept-of ks [])) ≡ lay (swept-of (ks ++ map keys l) [])
+    → with-vertices keys l n (lay (held ks [])) ≡ lay (held (ks ++ map keys l) [])
 unfolding with-vertices
-vertices-laid keys [] ks n e = ap (λ k. lay (swept-of k [])) (sym (append-nil ks))
+vertices-laid keys [] ks n e = ap (λ k. lay (held k [])) (sym (append-nil ks))
 vertices-laid keys (x ∷ l) ks n e =
     ap (with-vertices keys l (n + 1))
-    (committed-lay (swept-of ks []) (vertex-write n (keys x))
-    ∙ ap (λ k. lay (commit (swept-of ks []) (vertex-write k (keys x)))) e
+    (committed-lay (held ks []) (vertex-write n (keys x))
+    ∙ ap (λ k. lay (commit (held ks []) (vertex-write k (keys x)))) e
     ∙ lay-agree (vertex-agrees ks (keys x)))
     ∙ vertices-laid keys l (ks ++ (keys x ∷ [])) (n + 1) (omega (arith, length-append ks (keys x ∷ [])))
-    ∙ ap (λ k. lay (swept-of k [])) (append-assoc ks (keys x ∷ []) (map keys l))
+    ∙ ap (λ k. lay (held k [])) (append-assoc ks (keys x ∷ []) (map keys l))

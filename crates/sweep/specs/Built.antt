@@ -1,4 +1,5 @@
--- What the walks of a sweep leave in the second memory, by the nodes that they keep: each one becomes a new node behind the one before.
+-- The second memory after the walks of a sweep, by the nodes that they keep.
+-- Each one becomes a new node after the one before.
 use Prim.Native.Nat.{ℕ, _+_}
 use mathlib.Core.Bool.{Bool}
 use mathlib.Core.List.{List, [], _∷_}
@@ -23,7 +24,7 @@ committed m w = lay (commit (view m) w)
 unfoldable pub last-vertex : ℕ → ℕ
 last-vertex n = pick (eqb n 0) head (1 + n)
 
--- a new vertex behind n others
+-- a new vertex after n others
 abbrev pub vertex-write : ℕ → ℤ → Write
 vertex-write n key = NewVertex (2 + n) key tail (last-vertex n)
 
@@ -31,7 +32,7 @@ unfoldable pub with-vertices : (ℕ → ℤ) → List ℕ → ℕ → Memory →
 with-vertices keys [] n m = m
 with-vertices keys (x ∷ l) n m = with-vertices keys l (n + 1) (committed m (vertex-write n (keys x)))
 
--- the new numbers of vertices behind n others, by their old numbers
+-- the new numbers of vertices after n others, by their old numbers
 unfoldable pub numbered : List ℕ → ℕ → List ℕ → List ℕ
 numbered [] n numbers = numbers
 numbered (x ∷ l) n numbers = numbered l (n + 1) (set numbers x (2 + n))
@@ -39,7 +40,7 @@ numbered (x ∷ l) n numbers = numbered l (n + 1) (set numbers x (2 + n))
 abbrev pub number-of : List ℕ → ℕ → ℕ
 number-of numbers x = getD numbers x 0
 
--- A new edge where there are n others, behind p in the list of its source, or first in it where p is the tail.
+-- A new edge where there are n others: after p in its source's list, or first in it where p is the tail.
 unfoldable pub edge-write : ℕ → ℤ → ℕ → ℕ → ℕ → Write
 edge-write n key target source p =
     pick (eqb p 0) (NewFirst (1 + n) key target edge-tail source) (NewEdge (1 + n) key target edge-tail p added)

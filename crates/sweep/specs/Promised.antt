@@ -1,4 +1,5 @@
--- What a sweep promises, for any two memories and any table; and that any two results which the promise allows coincide.
+-- What a sweep promises, for any two memories and any table.
+-- Any two results which the promise allows coincide.
 use Prim.Native.Nat.{ℕ}
 use mathlib.Core.List.{List}
 use mathlib.Core.Path.{_≡_, sym, _∙_}
@@ -7,7 +8,7 @@ use Rattle.catalogue.specs.Lent.{Memory, lent-sweep}
 use Rattle.catalogue.specs.declared.answers.Made.{Made}
 use Rattle.catalogue.specs.declared.workers.Table.{Table}
 
--- the answer, and both slices of the second memory as the call leaves them
+-- the answer, and both slices of the second memory after the call
 abbrev pub Sweeps : Memory → Memory → Table → Made → List ℤ → List ℕ → Type 0
 Sweeps m n t r keys words =
     (r ≡ lent-sweep m n t .answer) × ((keys ≡ lent-sweep m n t .memory .keys) × (words ≡ lent-sweep m n t .memory .words))

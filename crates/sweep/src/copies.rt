@@ -22,7 +22,7 @@ pub struct Tip {
     pub p: u16,
 }
 
-// The vertex x and its new number, behind n others.
+// The vertex x and its new number, after n others.
 pub fn copy_vertex(
     keys: &[i32],
     new_keys: &mut [i32],
@@ -43,7 +43,7 @@ pub fn copy_vertex(
     put_number(numbers, x, n);
 }
 
-// The edge e, if it is live; answers where the edge after it goes.
+// The edge e, if it is live; returns where the edge after it goes.
 pub fn copy_edge(
     keys: &[i32],
     words: &[u32],

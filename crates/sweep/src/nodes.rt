@@ -8,7 +8,7 @@ ghost use Rattle.sweep.specs.Built.{committed, last-vertex, vertex-write
 use catalogue::links::Target;
 use catalogue::writes::Write;
 use memory::reads::edge_target;
-use memory::writes::commit;
+use writing::writes::commit;
 
 // The head, where no vertex is made yet.
 fn last_vertex(n: u8) -> u8
@@ -21,7 +21,7 @@ fn last_vertex(n: u8) -> u8
     1 + n
 }
 
-// A vertex behind the n that are made; it is the last one, so it leads to the tail.
+// A vertex after the n that are made; it is the last one, so it leads to the tail.
 pub fn add_vertex(new_keys: &mut [i32], new_words: &mut [u32], n: u8, key: i32)
     requires { ⌜ Sized (now «new_keys») (now «new_words») ⌝ }
     requires { ⌜ n < 254 ⌝ }
@@ -40,7 +40,7 @@ pub fn add_vertex(new_keys: &mut [i32], new_words: &mut [u32], n: u8, key: i32)
     );
 }
 
-// The new number of x, behind n others.
+// The new number of x, after n others.
 pub fn put_number(numbers: &mut [u8], x: u8, n: u8)
     requires { ⌜ length (now numbers) ≡ 256 ⌝ }
     requires { ⌜ n < 254 ⌝ }
@@ -75,7 +75,7 @@ fn edge_write(n: u16, key: i32, target: u8, source: u8, p: u16) -> Write
     }
 }
 
-// The write of a new edge leaves it on trial, so its own link is written once more.
+// The write of a new edge puts it on trial, so its own link is written once more.
 pub fn add_edge(
     new_keys: &mut [i32],
     new_words: &mut [u32],
@@ -103,7 +103,7 @@ pub fn add_edge(
     );
 }
 
-// A live edge has a whole target; the number of a torn one is of no use to anybody.
+// A live edge has a whole target; the number of a torn one is of no use.
 pub fn target_number(words: &[u32], numbers: &[u8], e: u16) -> u8
     requires { ⌜ length (now words) ≡ words-size ⌝ }
     requires { ⌜ length (now numbers) ≡ 256 ⌝ }

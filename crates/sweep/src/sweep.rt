@@ -11,8 +11,8 @@ use crate::walks::sweep_vertices;
 use catalogue::answers::Made;
 use catalogue::answers::Refusal;
 use catalogue::workers::Table;
+use clearing::fresh::lay_fresh;
 use memory::checks::sized;
-use memory::fresh::lay_fresh;
 use survey::soundness::sound;
 use survey::tests::next_vertex;
 use workers::checks::one_to;
@@ -40,7 +40,7 @@ fn sweep_sound(keys: &[i32], words: &[u32], new_keys: &mut [i32], new_words: &mu
     sweep_edges(keys, words, &numbers, new_keys, new_words, 0, first, 256);
 }
 
-// The table, then the first catalogue; the second one stays as it is where one of them is refused.
+// The table, then the first catalogue; the second one is unchanged where one of them is refused.
 fn sweep_into(
     keys: &[i32],
     words: &[u32],

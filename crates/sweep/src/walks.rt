@@ -1,4 +1,5 @@
-// Walks by recursion, as they are defined: the fuel falls by one at each node, and each node that is kept becomes a new one.
+// Walks by recursion, as they are defined: the fuel falls by one at each node.
+// Each node that is kept becomes a new one.
 ghost use mathlib.Core.Path.{_≡_};
 ghost use Prim.Native.Nat.{_+_, _≤_, _<_};
 ghost use lib.ListN.{length};
@@ -57,7 +58,7 @@ pub fn sweep_vertices(
     sweep_vertices(keys, words, new_keys, new_words, numbers, n, next, fuel - 1)
 }
 
-// The live edges from e on, at the tip of their list; answers how many edges are made then.
+// The live edges from e on, at the tip of their list; returns how many edges are made then.
 fn sweep_edges_of(
     keys: &[i32],
     words: &[u32],
@@ -96,7 +97,7 @@ fn sweep_edges_of(
     )
 }
 
-// All edges of x, behind n others.
+// All edges of x, after n others.
 fn sweep_list(
     keys: &[i32],
     words: &[u32],

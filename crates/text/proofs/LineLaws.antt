@@ -1,4 +1,5 @@
--- A number of 32 bits and the byte behind it take at most twelve places, and a line is its first number, a space and the line of the others.
+-- A number of 32 bits and the byte after it take at most twelve places.
+-- A line is its first number, a space and the line of the others.
 use Prim.Native.Nat.{ℕ, _+_, _*_, _≤_, _<_}
 use mathlib.Core.List.{List, [], _∷_, _++_, map, append-assoc}
 use mathlib.Core.Path.{_≡_, refl, sym, ap, _∙_}

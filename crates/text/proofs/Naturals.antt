@@ -1,4 +1,4 @@
--- A number without a sign and of 32 bits takes at most eleven places too, so that the laws of lines hold of it as it stands.
+-- A number of 32 bits without a sign takes at most eleven places too, so the laws of lines hold for it unchanged.
 use Prim.Native.Nat.{ℕ, _+_, _≤_, _<_}
 use mathlib.Core.List.{List, [], _∷_}
 use mathlib.Core.Path.{_≡_}

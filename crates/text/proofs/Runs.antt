@@ -1,4 +1,4 @@
--- Runs of bytes that are put one behind the other are one run, and none changes how long the output is.
+-- Runs of bytes that are put one after the other are one run, and none changes how long the output is.
 use Prim.Native.Nat.{ℕ, _+_, _≤_, _<_}
 use mathlib.Core.List.{List, [], _∷_, _++_, append-assoc}
 use mathlib.Core.Path.{_≡_, sym, ap, _∙_}
@@ -30,7 +30,7 @@ module _ (l : List ℕ) (at : ℕ) (a b : List ℕ) (fits : at + length (a ++ b)
       rw (kept, left) (simp (append-assoc, sum, add-assoc)) in
       rw (← cut) joined
 
--- a call that puts a run, and a second one that goes on where the first one answered
+-- a call that puts a run, and a second one that goes on where the first one ended
 module _ (at mid : ℕ) (a b : List ℕ) (next : mid ≡ at + length a) where
   pub put-then : (l m k : List ℕ) → m ≡ put-at l at a → k ≡ put-at m mid b → at + length (a ++ b) ≤ length l → k ≡ put-at l at (a ++ b)
   put-then l m k first second fits = second ∙ rw (first, next) (put-twice l at a b fits)

@@ -1,4 +1,5 @@
--- A loop that stores the last digit of what is left before those that it has keeps the number's digits, and ten places are enough for 32 bits.
+-- A loop that stores the last digit of what is left before those that it has keeps the number's digits.
+-- Ten places are enough for 32 bits.
 use Prim.Native.Nat.{ℕ, zero, suc, _+_, _-_, _^_, _/_, _%_, _≤_, _<_}
 use mathlib.Core.List.{List, [], _∷_, _++_, append-assoc, append-nil}
 use mathlib.Core.Path.{_≡_, refl, sym, ap, _∙_}
@@ -14,7 +15,7 @@ drop-stored [] i d h = absurd (omega arith)
 drop-stored (x ∷ s) zero d h = refl
 drop-stored (x ∷ s) (suc i) d h = drop-stored s i d (omega arith)
 
--- the digits of what is left of n, and then those behind the place `first`, are the digits of n
+-- the digits of what is left of n, and then those after the place `first`, are the digits of n
 abbrev pub Spelling : ℕ → List ℕ → ℕ → ℕ → Type 0
 Spelling n s first rest = (decimal n ≡ decimal rest ++ drop (suc first) s) × ((first < 10) × (length s ≡ 10))
 

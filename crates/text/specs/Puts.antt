@@ -1,4 +1,4 @@
--- A run of bytes written into an output, whose other bytes stay.
+-- A run of bytes written into an output, whose other bytes are unchanged.
 use Prim.Native.Nat.{ℕ, _+_}
 use mathlib.Core.List.{List, _++_}
 use lib.ListN.{length, take, drop}

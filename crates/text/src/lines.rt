@@ -1,4 +1,4 @@
-// Lines of numbers: each number is put with the byte behind it, which is a space, and for the last one the line's end.
+// Lines of numbers: each number is put with the byte after it, which is a space, and for the last one the line's end.
 ghost use mathlib.Core.Path.{_≡_};
 ghost use mathlib.Core.List.{[], _∷_, _++_};
 ghost use Prim.Native.Nat.{_+_, _≤_};

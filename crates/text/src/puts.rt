@@ -1,4 +1,4 @@
-// Each call writes at `at` and answers where the next one goes on.
+// Each call writes at `at` and returns where the next one goes on.
 ghost use mathlib.Core.Path.{_≡_};
 ghost use mathlib.Core.List.{[], _∷_};
 ghost use Prim.Native.Nat.{_+_, _<_, _≤_};
@@ -29,7 +29,7 @@ pub fn put_bytes(output: &mut [u8], at: usize, bytes: &[u8]) -> usize
     at + i
 }
 
-// The digits come out last one first, so they fill the scratch from its end; the answer is where they begin.
+// The digits come out last one first, so they fill the scratch from its end; returns where they begin.
 fn spell(scratch: &mut [u8], n: u32) -> usize
     requires { ⌜ length (now scratch) ≡ 10 ⌝ }
     ensures { λ r. ⌜ drop r (now (scratch .exit)) ≡ decimal n ⌝ }

@@ -5,6 +5,8 @@ ghost use Rattle.catalogue.specs.Steps.Trial.{end-trial, see-trial};
 use catalogue::links::EdgeLink;
 use catalogue::steps::BothSeen;
 use catalogue::steps::Decision;
+use catalogue::workers::Ahead;
+use catalogue::workers::Ends;
 use catalogue::writes::Write;
 use looks::both::see_both;
 use memory::reads::edge_link;
@@ -24,13 +26,13 @@ pub fn end_trial(keys: &[i32], words: &[u32], e: u16, tag: u8, reply: u8) -> Dec
 }
 
 // (a) The ends of the queue in order, then the marks of u and v.
-pub fn see_trial(keys: &[i32], words: &[u32], front: u16, back: u16, u: u8, v: u8) -> BothSeen
+pub fn see_trial(keys: &[i32], words: &[u32], ahead: Ahead, ends: Ends) -> BothSeen
     requires { ⌜ Sized (now keys) (now words) ⌝ }
-    ensures { λ r. ⌜ r ≡ see-trial (catalogue-in (now (keys .entry)) (now (words .entry))) front back u v ⌝ }
+    ensures { λ r. ⌜ r ≡ see-trial (catalogue-in (now (keys .entry)) (now (words .entry))) ahead ends ⌝ }
 {
-    if front <= back {
-        if back <= 256 {
-            return see_both(keys, words, u, v);
+    if ahead.front <= ahead.back {
+        if ahead.back <= 256 {
+            return see_both(keys, words, ends.u, ends.v);
         }
         return BothSeen::Torn;
     }

@@ -9,6 +9,8 @@ use catalogue::links::Target;
 use catalogue::links::VertexLink;
 use catalogue::steps::BothSeen;
 use catalogue::steps::Decision;
+use catalogue::workers::Ahead;
+use catalogue::workers::Ends;
 use catalogue::workers::Place;
 use memory::reads::edge_link;
 use memory::reads::edge_target;
@@ -16,9 +18,9 @@ use memory::reads::vertex_link;
 use workers::met::met_has;
 
 // (b) An edge that is not MARKED leads to y.
-fn cross(keys: &[i32], words: &[u32], met: [u64; 4], back: u16, y: u8, next: Place) -> Decision
+fn cross(keys: &[i32], words: &[u32], ahead: Ahead, y: u8, next: Place) -> Decision
     requires { ⌜ Sized (now keys) (now words) ⌝ }
-    ensures { λ r. ⌜ r ≡ cross (catalogue-in (now (keys .entry)) (now (words .entry))) met back y next ⌝ }
+    ensures { λ r. ⌜ r ≡ cross (catalogue-in (now (keys .entry)) (now (words .entry))) ahead y next ⌝ }
 {
     let VertexLink::At { next: _, tag } = vertex_link(words, y) else {
         return Decision::Torn;
@@ -26,10 +28,11 @@ fn cross(keys: &[i32], words: &[u32], met: [u64; 4], back: u16, y: u8, next: Pla
     if tag == 1 {
         return Decision::Keeps { next };
     }
+    let met = ahead.met;
     if met_has(met, y) {
         return Decision::Keeps { next };
     }
-    if 256 <= back {
+    if 256 <= ahead.back {
         return Decision::Torn;
     }
     Decision::Meets { next, met: y }
@@ -39,27 +42,20 @@ fn cross(keys: &[i32], words: &[u32], met: [u64; 4], back: u16, y: u8, next: Pla
 fn pass_edge(
     keys: &[i32],
     words: &[u32],
-    met: [u64; 4],
-    back: u16,
-    k: i32,
-    l: i32,
-    u: u8,
-    v: u8,
+    ahead: Ahead,
+    ends: Ends,
     e: u16,
     x: u8,
     c: u16,
 ) -> Decision
     requires { ⌜ Sized (now keys) (now words) ⌝ }
-    ensures { λ r. ⌜ r ≡ pass-edge (catalogue-in (now (keys .entry)) (now (words .entry))) met back k l u v e x c ⌝ }
+    ensures { λ r. ⌜ r ≡ pass-edge (catalogue-in (now (keys .entry)) (now (words .entry))) ahead ends e x c ⌝ }
 {
     let EdgeLink::At { next, tag: of_edge } = edge_link(words, c) else {
         return Decision::Torn;
     };
     let onward = Place::TrialOpen {
-        k,
-        l,
-        u,
-        v,
+        ends,
         e,
         x,
         c: next,
@@ -70,64 +66,55 @@ fn pass_edge(
     let Target::At { vertex } = edge_target(words, c) else {
         return Decision::Torn;
     };
-    cross(keys, words, met, back, vertex, onward)
+    cross(keys, words, ahead, vertex, onward)
 }
 
 // (b) The vertex x is open at its edge c.
 fn step_open(
     keys: &[i32],
     words: &[u32],
-    met: [u64; 4],
-    back: u16,
-    k: i32,
-    l: i32,
-    u: u8,
-    v: u8,
+    ahead: Ahead,
+    ends: Ends,
     e: u16,
     x: u8,
     c: u16,
 ) -> Decision
     requires { ⌜ Sized (now keys) (now words) ⌝ }
-    ensures { λ r. ⌜ r ≡ step-open (catalogue-in (now (keys .entry)) (now (words .entry))) met back k l u v e x c ⌝ }
+    ensures { λ r. ⌜ r ≡ step-open (catalogue-in (now (keys .entry)) (now (words .entry))) ahead ends e x c ⌝ }
 {
     let VertexLink::At { next: _, tag } = vertex_link(words, x) else {
         return Decision::Torn;
     };
     if tag == 1 {
         return Decision::Keeps {
-            next: Place::Trial { k, l, u, v, e },
+            next: Place::Trial { ends, e },
         };
     }
     if c == 0 {
         return Decision::Keeps {
-            next: Place::Trial { k, l, u, v, e },
+            next: Place::Trial { ends, e },
         };
     }
-    pass_edge(keys, words, met, back, k, l, u, v, e, x, c)
+    pass_edge(keys, words, ahead, ends, e, x, c)
 }
 
 // One step of a trial with the vertex x open.
 pub fn trial_open(
     keys: &[i32],
     words: &[u32],
-    met: [u64; 4],
-    front: u16,
-    back: u16,
-    k: i32,
-    l: i32,
-    u: u8,
-    v: u8,
+    ahead: Ahead,
+    ends: Ends,
     e: u16,
     x: u8,
     c: u16,
 ) -> Decision
     requires { ⌜ Sized (now keys) (now words) ⌝ }
-    ensures { λ r. ⌜ r ≡ trial-open (catalogue-in (now (keys .entry)) (now (words .entry))) met front back k l u v e x c ⌝ }
+    ensures { λ r. ⌜ r ≡ trial-open (catalogue-in (now (keys .entry)) (now (words .entry))) ahead ends e x c ⌝ }
 {
-    let both = see_trial(keys, words, front, back, u, v);
+    let both = see_trial(keys, words, ahead, ends);
     match both {
         BothSeen::Torn => Decision::Torn,
         BothSeen::Dead => end_trial(keys, words, e, 1, 3),
-        BothSeen::Standing => step_open(keys, words, met, back, k, l, u, v, e, x, c),
+        BothSeen::Standing => step_open(keys, words, ahead, ends, e, x, c),
     }
 }

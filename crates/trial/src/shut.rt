@@ -8,16 +8,18 @@ use catalogue::links::EdgeLink;
 use catalogue::links::VertexLink;
 use catalogue::steps::BothSeen;
 use catalogue::steps::Decision;
+use catalogue::workers::Ahead;
+use catalogue::workers::Ends;
 use catalogue::workers::Place;
 use memory::reads::first_link;
 use memory::reads::vertex_link;
 
 // (d) The front x of the queue is taken.
-fn take_front(keys: &[i32], words: &[u32], k: i32, l: i32, u: u8, v: u8, e: u16, x: u8) -> Decision
+fn take_front(keys: &[i32], words: &[u32], ends: Ends, e: u16, x: u8) -> Decision
     requires { ⌜ Sized (now keys) (now words) ⌝ }
-    ensures { λ r. ⌜ r ≡ take-front (catalogue-in (now (keys .entry)) (now (words .entry))) k l u v e x ⌝ }
+    ensures { λ r. ⌜ r ≡ take-front (catalogue-in (now (keys .entry)) (now (words .entry))) ends e x ⌝ }
 {
-    if x == u {
+    if x == ends.u {
         return end_trial(keys, words, e, 1, 6);
     }
     let VertexLink::At { next: _, tag } = vertex_link(words, x) else {
@@ -25,7 +27,7 @@ fn take_front(keys: &[i32], words: &[u32], k: i32, l: i32, u: u8, v: u8, e: u16,
     };
     if tag == 1 {
         return Decision::Takes {
-            next: Place::Trial { k, l, u, v, e },
+            next: Place::Trial { ends, e },
         };
     }
     let EdgeLink::At { next, tag: _ } = first_link(words, x) else {
@@ -33,10 +35,7 @@ fn take_front(keys: &[i32], words: &[u32], k: i32, l: i32, u: u8, v: u8, e: u16,
     };
     Decision::Takes {
         next: Place::TrialOpen {
-            k,
-            l,
-            u,
-            v,
+            ends,
             e,
             x,
             c: next,
@@ -45,47 +44,25 @@ fn take_front(keys: &[i32], words: &[u32], k: i32, l: i32, u: u8, v: u8, e: u16,
 }
 
 // (c), (d) No vertex is open.
-fn step_shut(
-    keys: &[i32],
-    words: &[u32],
-    x: u8,
-    front: u16,
-    back: u16,
-    k: i32,
-    l: i32,
-    u: u8,
-    v: u8,
-    e: u16,
-) -> Decision
+fn step_shut(keys: &[i32], words: &[u32], ahead: Ahead, ends: Ends, e: u16) -> Decision
     requires { ⌜ Sized (now keys) (now words) ⌝ }
-    ensures { λ r. ⌜ r ≡ step-shut (catalogue-in (now (keys .entry)) (now (words .entry))) x front back k l u v e ⌝ }
+    ensures { λ r. ⌜ r ≡ step-shut (catalogue-in (now (keys .entry)) (now (words .entry))) ahead ends e ⌝ }
 {
-    if front == back {
+    if ahead.front == ahead.back {
         return end_trial(keys, words, e, 3, 1);
     }
-    take_front(keys, words, k, l, u, v, e, x)
+    take_front(keys, words, ends, e, ahead.x)
 }
 
 // One step of a trial with no vertex open.
-pub fn trial_shut(
-    keys: &[i32],
-    words: &[u32],
-    x: u8,
-    front: u16,
-    back: u16,
-    k: i32,
-    l: i32,
-    u: u8,
-    v: u8,
-    e: u16,
-) -> Decision
+pub fn trial_shut(keys: &[i32], words: &[u32], ahead: Ahead, ends: Ends, e: u16) -> Decision
     requires { ⌜ Sized (now keys) (now words) ⌝ }
-    ensures { λ r. ⌜ r ≡ trial-shut (catalogue-in (now (keys .entry)) (now (words .entry))) x front back k l u v e ⌝ }
+    ensures { λ r. ⌜ r ≡ trial-shut (catalogue-in (now (keys .entry)) (now (words .entry))) ahead ends e ⌝ }
 {
-    let both = see_trial(keys, words, front, back, u, v);
+    let both = see_trial(keys, words, ahead, ends);
     match both {
         BothSeen::Torn => Decision::Torn,
         BothSeen::Dead => end_trial(keys, words, e, 1, 3),
-        BothSeen::Standing => step_shut(keys, words, x, front, back, k, l, u, v, e),
+        BothSeen::Standing => step_shut(keys, words, ahead, ends, e),
     }
 }

@@ -1,4 +1,5 @@
--- Keys passed on to a callee mean the same there, definition by definition: a signed argument reaches it through its bits.
+-- Keys passed on to a callee mean the same there, definition by definition.
+-- A signed argument reaches the callee through its bits.
 use Prim.Native.Nat.{ℕ}
 use mathlib.Core.Bool.{Bool}
 use mathlib.Core.Path.{_≡_}

@@ -1,4 +1,4 @@
--- What the arms of a match on a place tell: an arm that knows its place, and the arm of all places but `Idle`.
+-- What the arms of a match on a place say: an arm that knows its place, and the arm of all places but `Idle`.
 use Prim.Native.Nat.{ℕ}
 use mathlib.Core.Bool.{true, false}
 use mathlib.Core.List.{List, [], _∷_}
@@ -18,7 +18,7 @@ use Rattle.catalogue.specs.declared.workers.Place.{Place}
 use Rattle.catalogue.specs.declared.workers.Place.the-variants.{Idle, AddV, RemV, ConV, AddEFindU, RemEFindU, ConEFindU, AddEFindV, RemEFindV, ConEFindV, AddE, RemE, ConE, Trial, TrialOpen}
 use Rattle.catalogue.specs.declared.workers.Request.{Request}
 
--- what an arm answers for the place that it knows
+-- what an arm returns for the place that it knows
 pub request-at : (p q : Place) (r : Request) → p ≡ q → r ≡ request-of q → r ≡ request-of p
 request-at p q r e s = s ∙ ap request-of (sym e)
 
@@ -42,17 +42,17 @@ busy-else Idle h = sym (keyed others 0 h)
 busy-else (AddV k p c) h = refl
 busy-else (RemV k p c) h = refl
 busy-else (ConV k c) h = refl
-busy-else (AddEFindU k l c) h = refl
-busy-else (RemEFindU k l c) h = refl
-busy-else (ConEFindU k l c) h = refl
-busy-else (AddEFindV k l u c) h = refl
-busy-else (RemEFindV k l u c) h = refl
-busy-else (ConEFindV k l u c) h = refl
-busy-else (AddE k l u v p c) h = refl
-busy-else (RemE k l u v p c) h = refl
-busy-else (ConE k l u v c) h = refl
-busy-else (Trial k l u v e) h = refl
-busy-else (TrialOpen k l u v e x c) h = refl
+busy-else (AddEFindU pair c) h = refl
+busy-else (RemEFindU pair c) h = refl
+busy-else (ConEFindU pair c) h = refl
+busy-else (AddEFindV pair u c) h = refl
+busy-else (RemEFindV pair u c) h = refl
+busy-else (ConEFindV pair u c) h = refl
+busy-else (AddE ends p c) h = refl
+busy-else (RemE ends p c) h = refl
+busy-else (ConE ends c) h = refl
+busy-else (Trial ends e) h = refl
+busy-else (TrialOpen ends e x c) h = refl
 
 pub busy-idle : (p : Place) → p ≡ Idle → false ≡ busy-at p
 busy-idle p e = ap busy-at (sym e)

@@ -3,7 +3,8 @@ use mathlib.Core.Path.{_≡_, refl}
 use mathlib.Core.List.{List, [], _∷_, _++_, map}
 use lib.IntN.{ℤ, pos, negsuc}
 use Rattle.catalogue.specs.Numbers.{least, greatest}
-use Rattle.catalogue.specs.Runs.{Choice, takes, steps, sweeps}
+use Rattle.catalogue.specs.Workers.{asks}
+use Rattle.catalogue.specs.Choosing.{Choice, takes, steps, sweeps}
 use Rattle.catalogue.specs.Examples.Rows.{Example, prints, answers, found, expected, call, stepped, turn-about}
 
 -- the second key of a request that reads one
@@ -18,7 +19,7 @@ p1 = prints
 
 -- P2: the reserved keys.
 abbrev p2 : Example
-p2 = answers 1 (takes 0 1 least unused ∷ takes 0 1 greatest unused ∷ []) (25 ∷ 25 ∷ [])
+p2 = answers 1 (takes 0 (asks 1 least unused) ∷ takes 0 (asks 1 greatest unused) ∷ []) (25 ∷ 25 ∷ [])
 
 -- P3: the keys next to them.
 abbrev p3 : Example
@@ -59,10 +60,10 @@ p9 = answers 2 (on-trial ++ call 1 6 (pos 5) (pos 7) 4) (1 ∷ 1 ∷ 8 ∷ [])
 
 -- P10: worker counts 0 and 9, for each call on a table.
 abbrev p10-none : Example
-p10-none = answers 0 (takes 0 1 (pos 5) unused ∷ steps 0 ∷ sweeps ∷ []) (21 ∷ 21 ∷ 21 ∷ [])
+p10-none = answers 0 (takes 0 (asks 1 (pos 5) unused) ∷ steps 0 ∷ sweeps ∷ []) (21 ∷ 21 ∷ 21 ∷ [])
 
 abbrev p10-nine : Example
-p10-nine = answers 9 (takes 0 1 (pos 5) unused ∷ steps 0 ∷ sweeps ∷ []) (21 ∷ 21 ∷ 21 ∷ [])
+p10-nine = answers 9 (takes 0 (asks 1 (pos 5) unused) ∷ steps 0 ∷ sweeps ∷ []) (21 ∷ 21 ∷ 21 ∷ [])
 
 abbrev pub table : List Example
 table = p1 ∷ p2 ∷ p3 ∷ p4 ∷ p5 ∷ p6 ∷ p7 ∷ p8 ∷ p9 ∷ p10-none ∷ p10-nine ∷ []

@@ -1,5 +1,5 @@
--- Document 01, "Replies and refusals": for each refusal 20 to 27 two damaged calls or more, which give its number and change nothing. Where two refusals would
--- fit, the first in the order of the table is given.
+-- Document 01, "Replies and refusals": for each refusal 20 to 27 two damaged calls or more, which give its number
+-- and change nothing. Where two refusals would fit, the first in the order of the table is given.
 use Prim.Native.Nat.{ℕ}
 use Prim.Native.String.{String}
 use mathlib.Core.Path.{_≡_, refl}
@@ -10,14 +10,14 @@ use Rattle.catalogue.specs.Tests.{table-from}
 use Rattle.catalogue.specs.Numbers.{least, greatest, head, plain, link}
 use Rattle.catalogue.specs.Catalogue.{Catalogue, fresh}
 use Rattle.catalogue.specs.Writes.{with-vertex-link}
-use Rattle.catalogue.specs.Workers.{idle-table, put}
+use Rattle.catalogue.specs.Workers.{asks, idle-table, put}
 use Rattle.catalogue.specs.Answers.{told, made-number, told-listed, told-ran}
 use Rattle.catalogue.specs.Calls.{After, take-up, step}
 use Rattle.catalogue.specs.Sweep.{After-sweep, sweep-into}
 use Rattle.catalogue.specs.Listing.{After-listing, list-into}
 use Rattle.catalogue.specs.Lent.{Memory, Lent-call, Lent-run, lay, sized, output-fits, lent-take-up, lent-listing, lent-run}
-use Rattle.catalogue.specs.Runs.{start, after}
-use Rattle.catalogue.specs.Examples.Rows.{bytes, found, call}
+use Rattle.catalogue.specs.Choosing.{start, after}
+use Rattle.catalogue.specs.Examples.Rows.{bytes, found, call, ends, in-trial}
 use Rattle.catalogue.specs.Examples.Checked.{on-trial}
 use Rattle.catalogue.specs.declared.workers.Table.{Table}
 use Rattle.catalogue.specs.declared.workers.Place.the-variants.{Trial}
@@ -32,7 +32,7 @@ pub data Damaged : Type 0 where
   listing-lent : Memory → List ℕ → ℕ → Damaged
   running : String → Memory → List ℕ → ℕ → ℕ → Damaged
 
--- What each call leaves of what it was lent, with the number that it tells: computed once, and compared as one.
+-- What each call was lent, as it is after the call, with the number returned: computed once, and compared as one.
 unfoldable pub left : After → Catalogue × Table × ℕ
 left a = (a .catalogue, a .table, told (a .answer) .number)
 
@@ -49,11 +49,11 @@ unfoldable pub left-run : Lent-run → Memory × List ℕ × ℕ × ℕ
 left-run a = (a .memory, a .output, told-ran (a .answer) .number, told-ran (a .answer) .line)
 
 abbrev pub Refused : Damaged → Type 0
-Refused (taking-up C t w code k l n) = left (take-up C t w code k l) ≡ (C, t, n)
+Refused (taking-up C t w code k l n) = left (take-up C t w (asks code k l)) ≡ (C, t, n)
 Refused (stepping C t w n) = left (step C t w) ≡ (C, t, n)
 Refused (sweeping C D t n) = left-sweep (sweep-into C D t) ≡ (D, n)
 Refused (listing C output n) = left-listing (list-into C output) ≡ (output, n)
-Refused (taking-up-lent m t w code k l n) = left-lent (lent-take-up m t w code k l) ≡ (m, t, n)
+Refused (taking-up-lent m t w code k l n) = left-lent (lent-take-up m t w (asks code k l)) ≡ (m, t, n)
 Refused (listing-lent m output n) = left-listing (lent-listing m output) ≡ (output, n)
 Refused (running script m output n l) = left-run (lent-run (bytes script) m output) ≡ (m, output, n, l)
 
@@ -90,7 +90,7 @@ torn-head = with-vertex-link fresh head (link 256 plain)
 
 -- a trial whose queue ends are out of order
 abbrev torn-ends : Table
-torn-ends = put idle-two 1 (record { place = Trial (pos 5) (pos 7) 2 3 1; met = replicate 4 0; queue = replicate 256 0; front = 2; back = 1 })
+torn-ends = put idle-two 1 (in-trial (Trial (ends 5 7 2 3) 1) 2 1)
 
 -- an edge on trial, whose adder is not in the table that the sweep is shown
 abbrev left-on-trial : Catalogue

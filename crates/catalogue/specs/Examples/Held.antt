@@ -1,4 +1,5 @@
--- Document 01, "Numbers": what the lent memory holds, number by number, at the places that `Lent` gives each field; and the record of a worker that has its reply.
+-- Document 01, "Numbers": what the lent memory holds, number by number, at the places that `Lent` gives each field;
+-- and the record of a worker that has its reply.
 use Prim.Native.Nat.{ℕ}
 use mathlib.Core.Path.{_≡_, refl}
 use mathlib.Core.List.{List, [], _∷_, _++_, map}
@@ -9,7 +10,7 @@ use Rattle.catalogue.specs.Numbers.{least}
 use Rattle.catalogue.specs.Catalogue.{Catalogue, fresh}
 use Rattle.catalogue.specs.Workers.{idle-table}
 use Rattle.catalogue.specs.Lent.{lay, view}
-use Rattle.catalogue.specs.Runs.{start, after}
+use Rattle.catalogue.specs.Choosing.{start, after}
 use Rattle.catalogue.specs.Examples.Rows.{found, stepped}
 use Rattle.catalogue.specs.Examples.Checked.{on-trial, both-inserted}
 
@@ -27,7 +28,8 @@ trial-on = after (start 1) on-trial .catalogue
 abbrev trial-over : Catalogue
 trial-over = after (start 1) (on-trial ++ stepped 0 3) .catalogue
 
--- Both counts; the links of the vertices 0, 2 and 3; the first-edge links of 2 and 3; the target and the link of the edge 1.
+-- Both counts; the links of the vertices 0, 2 and 3; the first-edge links of 2 and 3;
+-- the target and the link of the edge 1.
 abbrev places : List ℕ
 places = 0 ∷ 1 ∷ 2 ∷ 4 ∷ 5 ∷ 260 ∷ 261 ∷ 515 ∷ 2563 ∷ []
 
@@ -50,13 +52,13 @@ trial-keys = refl
 
 -- The same fields, as a call reads them in the memory that it was lent.
 abbrev seen : Catalogue → List ℕ
-seen C = C .vertices-out ∷ C .edges-out ∷ C .vlink 0 ∷ C .vlink 2 ∷ C .vlink 3 ∷ C .first 2 ∷ C .first 3 ∷ C .target 1 ∷ C .elink 1 ∷ []
+seen C = C .counts .vertices ∷ C .counts .edges ∷ C .vertices .link 0 ∷ C .vertices .link 2 ∷ C .vertices .link 3 ∷ C .vertices .first 2 ∷ C .vertices .first 3 ∷ C .edges .target 1 ∷ C .edges .link 1 ∷ []
 
 pub seen-words : seen (view (lay trial-on)) ≡ 2 ∷ 1 ∷ 8 ∷ 12 ∷ 4 ∷ 4 ∷ 0 ∷ 3 ∷ 2 ∷ []
 unfolding found after lay table-from
 seen-words = refl
 
-pub seen-keys : view (lay trial-on) .ekey 1 ∷ map (view (lay trial-on) .vkey) (0 ∷ 2 ∷ 3 ∷ []) ≡ pos 7 ∷ least ∷ pos 5 ∷ pos 7 ∷ []
+pub seen-keys : view (lay trial-on) .edges .key 1 ∷ map (view (lay trial-on) .vertices .key) (0 ∷ 2 ∷ 3 ∷ []) ≡ pos 7 ∷ least ∷ pos 5 ∷ pos 7 ∷ []
 unfolding found after lay table-from
 seen-keys = refl
 

@@ -1,10 +1,11 @@
--- Examples beside P1 to P10, for what those ten leave open.
+-- Examples beside P1 to P10, for what those ten do not cover.
 use Prim.Native.Nat.{ℕ}
 use mathlib.Core.Path.{_≡_, refl}
 use mathlib.Core.List.{List, [], _∷_, _++_, map}
 use lib.IntN.{pos, negsuc}
 use Rattle.catalogue.specs.Numbers.{least, greatest}
-use Rattle.catalogue.specs.Runs.{Choice, sweeps}
+use Rattle.catalogue.specs.Choosing.{Choice, sweeps}
+use Rattle.catalogue.specs.Workers.{asks}
 use Rattle.catalogue.specs.Script.{Script, good, script-text, read-script}
 use Rattle.catalogue.specs.Examples.Rows.{Example, prints, answers, meets, bytes, found, expected, call, stepped}
 use Rattle.catalogue.specs.Examples.Checked.{unused, both-inserted, on-trial}
@@ -33,18 +34,21 @@ other-replies = answers 2
     ++ (call 1 2 (pos 6) unused 2 ++ (call 1 3 (pos 6) unused 2 ++ call 1 4 (pos 6) (pos 5) 2)))))))))))
     (1 ∷ 1 ∷ 7 ∷ 1 ∷ 4 ∷ 1 ∷ 1 ∷ 1 ∷ 5 ∷ 2 ∷ 2 ∷ 2 ∷ 3 ∷ [])
 
--- A sweep keeps the live graph under new numbers: of 4, 5 and 7 the first is removed; the edge 5 to 7 is there after it, and 7 to 5 closes a loop.
+-- A sweep keeps the live graph under new numbers: of 4, 5 and 7 the first is removed;
+-- the edge 5 to 7 is there after it, and 7 to 5 closes a loop.
 abbrev swept : Example
 swept = answers 1
     (call 0 1 (pos 4) unused 1 ++ (call 0 1 (pos 5) unused 2 ++ (call 0 1 (pos 7) unused 3 ++ (call 0 4 (pos 5) (pos 7) 9
     ++ (call 0 2 (pos 4) unused 1 ++ (sweeps ∷ (call 0 6 (pos 5) (pos 7) 4 ++ (call 0 4 (pos 7) (pos 5) 8 ++ call 0 3 (pos 4) unused 1))))))))
     (1 ∷ 1 ∷ 1 ∷ 1 ∷ 1 ∷ 1 ∷ 6 ∷ 2 ∷ [])
 
--- The number of series met, choice by choice: 1 when a trial begins, 2 once it has crossed the other's edge, 0 with the reply.
+-- The number of series met, choice by choice: 1 when a trial begins, 2 once it has crossed the other's edge,
+-- 0 with the reply.
 abbrev met-counts : Example
 met-counts = meets 2 (both-inserted ++ stepped 0 4) (0 ∷ 0 ∷ 0 ∷ 0 ∷ 0 ∷ 0 ∷ 0 ∷ 0 ∷ 0 ∷ 1 ∷ 0 ∷ 0 ∷ 0 ∷ 0 ∷ 1 ∷ 1 ∷ 2 ∷ 2 ∷ 0 ∷ [])
 
--- Two workers in each other's way: looks that unlink and mark, edges to removed targets, a key removed and added again.
+-- Two workers in each other's way: looks that unlink and mark, edges to removed targets,
+-- a key removed and added again.
 abbrev crossing-removals : Example
 crossing-removals = prints
     "2 9 5 86\n1 1\n1 2\n1 3\n4 3 2\n4 3 1\n4 3 3\n1 1\n5 3 3\n4 3 1\n4 3 1\n2 1\n1 1\n6 3 3\n4 1 3\n0 0 0 0 0 0 0 0 0 0 1 0 0 0 1 0 1 0 1 1 0 0 0 0 0 0 0 0 0 0 0 0 0 0 0 0 1 0 0 0 0 0 0 0 0 0 0 0 0 0 0 1 1 1 1 1 1 1 1 1 1 0 1 1 1 1 1 0 1 1 1 1 1 1 1 1 1 1 1 1 0 0 0 0 0 0\n"
@@ -72,27 +76,31 @@ removed-passed = answers 1
 abbrev three-vertices : List Choice
 three-vertices = call 0 1 (pos 1) unused 1 ++ (call 0 1 (pos 2) unused 2 ++ call 0 1 (pos 3) unused 3)
 
--- ConE passes an edge of lower key; it answers 8 where a vertex is missing, and where one was removed after it was found.
+-- ConE passes an edge of lower key; it answers 8 where a vertex is missing,
+-- and where one was removed after it was found.
 abbrev contained : Example
 contained = answers 2
     (three-vertices ++ (call 0 4 (pos 1) (pos 2) 7 ++ (call 0 4 (pos 1) (pos 3) 9 ++ (call 0 6 (pos 1) (pos 3) 6 ++ (call 0 6 (pos 4) (pos 1) 4
     ++ (call 0 6 (pos 1) (pos 4) 5 ++ (call 1 6 (pos 1) (pos 2) 3 ++ (call 0 2 (pos 2) unused 2 ++ stepped 1 1))))))))
     (1 ∷ 1 ∷ 1 ∷ 1 ∷ 1 ∷ 1 ∷ 8 ∷ 8 ∷ 1 ∷ 8 ∷ [])
 
--- The edge 1 to 2 is on trial before 1 to 3, which is removed and then unlinked behind it: the tag of 1 to 2 is kept, so it is still not there.
+-- The edge 1 to 2 is on trial before 1 to 3, which is removed and then unlinked after it.
+-- The tag of 1 to 2 is kept, so it is still not there.
 abbrev kept-on-trial : Example
 kept-on-trial = answers 2
     (three-vertices ++ (call 1 4 (pos 1) (pos 3) 8 ++ (call 0 4 (pos 1) (pos 2) 4 ++ (call 1 5 (pos 1) (pos 3) 6 ++ (call 1 5 (pos 1) (pos 3) 7
     ++ call 1 6 (pos 1) (pos 2) 4)))))
     (1 ∷ 1 ∷ 1 ∷ 1 ∷ 1 ∷ 5 ∷ 8 ∷ [])
 
--- A worker stands at an edge that is removed and unlinked: it still goes on from there, for no other link than p's was turned.
+-- A worker stands at an edge that is removed and unlinked.
+-- It still goes on from there, for no other link than p's was turned.
 abbrev left-behind : Example
 left-behind = answers 2
     (three-vertices ++ (call 0 4 (pos 1) (pos 2) 7 ++ (call 1 6 (pos 1) (pos 3) 4 ++ (call 0 5 (pos 1) (pos 2) 4 ++ (call 0 5 (pos 1) (pos 2) 5 ++ stepped 1 2)))))
     (1 ∷ 1 ∷ 1 ∷ 1 ∷ 1 ∷ 5 ∷ 8 ∷ [])
 
--- p is removed under a look that stands behind it, of AddV and of AddE: the look starts again and unlinks what was removed before it settles.
+-- p is removed under a look that has just passed it, of AddV and of AddE.
+-- The look starts again and unlinks what was removed before it settles.
 abbrev vertex-behind : Example
 vertex-behind = answers 2
     (call 0 1 (pos 5) unused 1 ++ (call 0 1 (pos 7) unused 2 ++ (call 1 1 (pos 6) unused 1 ++ (call 0 2 (pos 5) unused 1 ++ (stepped 1 3
@@ -109,7 +117,8 @@ edge-behind = answers 2
 abbrev open-target-removed : Example
 open-target-removed = answers 2 (on-trial ++ (stepped 0 1 ++ (call 1 2 (pos 7) unused 2 ++ stepped 0 1))) (1 ∷ 1 ∷ 1 ∷ 3 ∷ [])
 
--- 2 to 3 and 3 to 1 stand, and 1 to 2 is on trial. 3 is removed while it waits in the queue, and then while it is open: it is dropped, or closed, in one step.
+-- 2 to 3 and 3 to 1 stand, and 1 to 2 is on trial.
+-- 3 is removed while it waits in the queue, and then while it is open: it is dropped, or closed, in one step.
 abbrev almost-loop : ℕ → Example
 almost-loop n = answers 2
     (three-vertices ++ (call 0 4 (pos 2) (pos 3) 9 ++ (call 0 4 (pos 3) (pos 1) 8 ++ (call 0 4 (pos 1) (pos 2) n ++ (call 1 2 (pos 3) unused 3 ++ stepped 0 2)))))
@@ -119,7 +128,8 @@ almost-loop n = answers 2
 abbrev one-edge : List Choice
 one-edge = call 0 1 (pos 1) unused 1 ++ (call 0 1 (pos 2) unused 2 ++ call 0 4 (pos 1) (pos 2) 7)
 
--- ConE asks where the edge leads, and for the mark of u: 2 was removed and added again, which leaves the old edge to the old one; then 1 goes after it was found.
+-- ConE asks where the edge leads, and for the mark of u: 2 was removed and added again,
+-- and the old edge still leads to the old one; then 1 goes after it was found.
 abbrev old-target : Example
 old-target = answers 1
     (one-edge ++ (call 0 2 (pos 2) unused 2 ++ (call 0 1 (pos 2) unused 3 ++ call 0 6 (pos 1) (pos 2) 4)))
@@ -145,7 +155,7 @@ trial-left-alone = answers 2
     (on-trial ++ (call 1 2 (pos 7) unused 2 ++ (call 1 1 (pos 7) unused 3 ++ call 1 4 (pos 5) (pos 7) 4)))
     (1 ∷ 1 ∷ 1 ∷ 1 ∷ 7 ∷ [])
 
--- 1 to 2 is on trial, and stays so when 1 to 3 is put in behind it.
+-- 1 to 2 is on trial, and still is when 1 to 3 is put in after it.
 abbrev inserted-behind-trial : Example
 inserted-behind-trial = answers 2
     (three-vertices ++ (call 0 4 (pos 1) (pos 2) 4 ++ (call 1 4 (pos 1) (pos 3) 9 ++ call 1 6 (pos 1) (pos 2) 4)))
@@ -184,7 +194,7 @@ line-rules =
 abbrev written-script : Script
 written-script = record {
   counts = 1 ∷ 1 ∷ [];
-  requests = record { code = 3; k = negsuc 6; l = unused } ∷ record { code = 4; k = pos 0; l = negsuc 0 } ∷ [];
+  requests = asks 3 (negsuc 6) unused ∷ asks 4 (pos 0) (negsuc 0) ∷ [];
   schedule = 1 ∷ 0 ∷ 1 ∷ [];
 }
 

@@ -1,9 +1,8 @@
 -- Document 01, "The steps": one step of a worker by its place; what the record is after it, and what is answered.
 use Prim.Native.Nat.{ℕ}
-use mathlib.Core.List.{List}
 use Rattle.catalogue.specs.Tests.{pick}
 use Rattle.catalogue.specs.Catalogue.{Catalogue}
-use Rattle.catalogue.specs.Workers.{idle, bare, begun, kept, queued, taken, met-count, request-of, front-of}
+use Rattle.catalogue.specs.Workers.{idle, bare, begun, kept, queued, taken, met-count, request-of, ahead}
 use Rattle.catalogue.specs.Steps.Places.{key-refused}
 use Rattle.catalogue.specs.Steps.Vertices.{step-vertex}
 use Rattle.catalogue.specs.Steps.Finding.{step-contains, step-find-u, step-find-v}
@@ -12,6 +11,7 @@ use Rattle.catalogue.specs.Steps.Edges.{step-edge}
 use Rattle.catalogue.specs.Steps.Trial.{trial-shut, trial-open}
 use Rattle.catalogue.specs.declared.workers.Place.{Place}
 use Rattle.catalogue.specs.declared.workers.Place.the-variants.{Idle, AddV, RemV, ConV, AddEFindU, RemEFindU, ConEFindU, AddEFindV, RemEFindV, ConEFindV, AddE, RemE, ConE, Trial, TrialOpen}
+use Rattle.catalogue.specs.declared.workers.Ahead.{Ahead}
 use Rattle.catalogue.specs.declared.workers.Worker.{Worker}
 use Rattle.catalogue.specs.declared.writes.Write.{Write}
 use Rattle.catalogue.specs.declared.writes.Write.the-variants.{Nothing}
@@ -23,36 +23,34 @@ use Rattle.catalogue.specs.declared.answers.Stepped.{Stepped}
 use Rattle.catalogue.specs.declared.steps.Decision.{Decision}
 use Rattle.catalogue.specs.declared.steps.Decision.the-variants.{Torn, Code, Going, Begins, Keeps, Meets, Takes, Reply}
 
--- The place says which step it is; a trial also has the set met, the front x of its queue, and the queue's ends. An idle worker has no step: who asks
--- for it is refused before.
-abbrev pub step-at : Catalogue → Place → List ℕ → ℕ → ℕ → ℕ → Decision
-step-at C Idle met x front back = Torn
-step-at C (AddV k p c) met x front back = step-vertex C 1 k p c
-step-at C (RemV k p c) met x front back = step-vertex C 2 k p c
-step-at C (ConV k c) met x front back = step-contains C k c
-step-at C (AddEFindU k l c) met x front back = step-find-u C 4 k l c
-step-at C (RemEFindU k l c) met x front back = step-find-u C 5 k l c
-step-at C (ConEFindU k l c) met x front back = step-find-u C 6 k l c
-step-at C (AddEFindV k l u c) met x front back = step-find-v C 4 k l u c
-step-at C (RemEFindV k l u c) met x front back = step-find-v C 5 k l u c
-step-at C (ConEFindV k l u c) met x front back = step-find-v C 6 k l u c
-step-at C (AddE k l u v p c) met x front back = step-edge C 4 k l u v p c
-step-at C (RemE k l u v p c) met x front back = step-edge C 5 k l u v p c
-step-at C (ConE k l u v c) met x front back = step-contains-edge C k l u v c
-step-at C (Trial k l u v e) met x front back = trial-shut C x front back k l u v e
-step-at C (TrialOpen k l u v e y c) met x front back = trial-open C met front back k l u v e y c
+-- The place says which step it is; a trial also reads what lies ahead of it.
+-- An idle worker has no step: a call for it is refused before.
+abbrev pub step-at : Catalogue → Place → Ahead → Decision
+step-at C Idle a = Torn
+step-at C (AddV k p c) a = step-vertex C 1 k p c
+step-at C (RemV k p c) a = step-vertex C 2 k p c
+step-at C (ConV k c) a = step-contains C k c
+step-at C (AddEFindU pair c) a = step-find-u C 4 pair c
+step-at C (RemEFindU pair c) a = step-find-u C 5 pair c
+step-at C (ConEFindU pair c) a = step-find-u C 6 pair c
+step-at C (AddEFindV pair u c) a = step-find-v C 4 pair u c
+step-at C (RemEFindV pair u c) a = step-find-v C 5 pair u c
+step-at C (ConEFindV pair u c) a = step-find-v C 6 pair u c
+step-at C (AddE ends p c) a = step-edge C 4 ends p c
+step-at C (RemE ends p c) a = step-edge C 5 ends p c
+step-at C (ConE ends c) a = step-contains-edge C ends c
+step-at C (Trial ends e) a = trial-shut C a ends e
+step-at C (TrialOpen ends e x c) a = trial-open C a ends e x c
 
 -- The paragraph on TORN: the request's keys are looked at before anything else.
-unfoldable pub decide-at : Catalogue → Place → List ℕ → ℕ → ℕ → ℕ → Decision
-decide-at C place met x front back =
-    let r = request-of place in
-    pick (key-refused (r .code) (r .k) (r .l)) Torn (step-at C place met x front back)
+unfoldable pub decide-at : Catalogue → Place → Ahead → Decision
+decide-at C place a = pick (key-refused (request-of place)) Torn (step-at C place a)
 
 -- What a worker's step decides.
 abbrev pub decide : Catalogue → Worker → Decision
-decide C w = decide-at C (w .place) (w .met) (front-of w) (w .front) (w .back)
+decide C w = decide-at C (w .place) (ahead (w .reach))
 
--- The record after the step: what the new place has no use for is zero; a reply leaves the idle record.
+-- The record after the step: what the new place has no use for is zero; after a reply it is the idle record.
 abbrev pub record-after : Worker → Decision → Worker
 record-after w Torn = w
 record-after w Code = w
@@ -76,7 +74,7 @@ write-of (Reply number write) = write
 
 -- Going on, with the count of the set that the new record holds.
 abbrev pub going : Worker → Answer
-going after = answer.Going (met-count (after .met))
+going after = answer.Going (met-count (after .reach .met))
 
 -- The answer: a reply, or going on.
 abbrev pub answer-of : Decision → Worker → Answer

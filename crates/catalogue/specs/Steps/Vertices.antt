@@ -37,9 +37,9 @@ new-vertex room.Full k p c = Reply 9 Nothing
 new-vertex room.Torn k p c = Torn
 
 unfoldable pub settle-add-vertex : Catalogue → ℤ → ℕ → ℕ → Bool → Decision
-settle-add-vertex C k p c equal = pick equal (Reply 2 Nothing) (new-vertex (room most-vertices 2 (C .vertices-out)) k p c)
+settle-add-vertex C k p c equal = pick equal (Reply 2 Nothing) (new-vertex (room most-vertices 2 (C .counts .vertices)) k p c)
 
--- RemV: c gets its mark, and stays linked.
+-- RemV: c gets its mark, and is still linked.
 unfoldable pub settle-remove-vertex : ℕ → ℕ → Bool → Decision
 settle-remove-vertex c next equal = pick equal (Reply 1 (VertexLink c next marked)) (Reply 2 Nothing)
 

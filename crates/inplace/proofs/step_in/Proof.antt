@@ -1,4 +1,6 @@
--- The borrow of the record is opened, the record is copied out and passed with the slices to the covered step, of which only its contract is known; of what comes back the worker is stored over the record and the answer is returned. A walk of the MIR by hand.
+-- A walk of the MIR by hand. The borrow of the record is opened; the record is copied out and passed with the slices
+-- to the covered step, of which only its contract is known.
+-- The worker that comes back is stored over the record, and the answer is returned.
 use mathlib.Core.Path.{_≡_, refl, ap}
 use Prim.Native.Nat.{ℕ}
 use mathlib.Core.List.{[], _∷_, List}
@@ -114,13 +116,15 @@ module _ {M : Type 1} (𝓤 : URA M) (H : Heap 𝓤) (A : Atoms 𝓤) (W : Given
         enter ! C Λ code.function (sliceVal (xk .ptr) (length (xk .now)) ∷ sliceVal (xw .ptr) (length (xw .now)) ∷ vptr b o ∷ []) _ $
         alloc1 ! (λ l₀. alloc1 ! (λ l₁. alloc1 ! (λ l₂. alloc1 ! (λ l₃. alloc1 ! (λ l₄. alloc1 ! (λ l₅. alloc1 ! (λ l₆. alloc1 ! (λ l₇. alloc1 ! (λ l₈. alloc1 ! (λ l₉. alloc0 ! $ params1 ! $
         pass1 ! (init ! 16 refl (mut-slice-lawful 𝓤 H A W (named 0) κ₀ i32 .typed xk _ isk .0)) $ pass1 ! (init ! 14 refl (mut-slice-lawful 𝓤 H A W (named 1) κ₁ u32 .typed xw _ isw .0)) $ pass1 ! (init ! 12 refl (tt, tt)) $ pass0 ! $
-        -- [_9 (0); _8 (2); _7 (4); _6 (6); _5 (8); _4 (10); _3 (12); _2 (14); _1 (16); _0 (18); obs (20); the borrow; κ₂; κ₀ and κ₁; the slices; true]
+        -- [_9 (0); _8 (2); _7 (4); _6 (6); _5 (8); _4 (10); _3 (12); _2 (14); _1 (16); _0 (18); obs (20); the borrow;
+        --  κ₂; κ₀ and κ₁; the slices; true]
         assigns ! (addr ! (from ! (fld ! refl (hop ! (look-in ! 16 (sub ! 0 refl (whole !))) (stop !))))) (from ! (stop !)) (init ! 8 refl (tt, tt)) $
         assigns ! (agg ! (and-then ! (load ! (from ! (stop !)) (look ! 8 refl)) (and-then ! (load ! (from ! (fld ! refl (stop !))) (look-in ! 16 (sub ! 1 refl (whole !)))) (no-more !)))) (from ! (stop !)) (init ! 6 refl (tt, (tt, (record { fits = isk .0 .1 .0 }, tt)))) $
         assigns ! (addr ! (from ! (fld ! refl (hop ! (look-in ! 14 (sub ! 0 refl (whole !))) (stop !))))) (from ! (stop !)) (init ! 4 refl (tt, tt)) $
         assigns ! (agg ! (and-then ! (load ! (from ! (stop !)) (look ! 4 refl)) (and-then ! (load ! (from ! (fld ! refl (stop !))) (look-in ! 14 (sub ! 1 refl (whole !)))) (no-more !)))) (from ! (stop !)) (init ! 2 refl (tt, (tt, (record { fits = isw .0 .1 .0 }, tt)))) $
         move ! (20 ∷ 21 ∷ 22 ∷ []) $ opens ! tt (T.the-row) {h = h} b o (λ vs. spelt ! (T.the-row) (Is (T.the-row)) (shows 𝓤 H A (T.the-row)) worker-vals (LL.tells T.the-type T′.the-laws) fullShare h vs b o $
-        -- [the record's cell; what a Worker owns; the open borrow; obs; auth; _9 (5); _8 (7); _7 (9); _6 (11); _5 (13); _4 (15); _3 (17); _2 (19); _1 (21); _0 (23); κ₀ and κ₁ (25); the slices (26); true]
+        -- [the record's cell; what a Worker owns; the open borrow; obs; auth; _9 (5); _8 (7); _7 (9); _6 (11);
+        --  _5 (13); _4 (15); _3 (17); _2 (19); _1 (21); _0 (23); κ₀ and κ₁ (25); the slices (26); true]
         move ! (1 ∷ []) $ peeks ! (T.the-row) (Is (T.the-row)) (shows 𝓤 H A (T.the-row)) h (worker-vals h) (λ is.
         assigns ! (of-opd ! (load ! (from ! (hop ! (look ! 17 refl) (stop !))) (look-raw ! 1 refl))) (from ! (stop !)) (init ! 5 refl (LL.lawful T.the-type T′.the-laws 𝓤 H A W .typed h _ is .0)) $
         move ! (25 ∷ 26 ∷ 0 ∷ []) $ use3 W (raw (Step 𝓤 H A at-mem run .pre to-step)) (goes-step sized) $
@@ -131,18 +135,22 @@ module _ {M : Type 1} (𝓤 : URA M) (H : Heap 𝓤) (A : Atoms 𝓤) (W : Given
         split ! $ move ! (1 ∷ []) $ split ! $ heard ! (r ≡ gave xk xw h) (λ e. heard ! (Left xk xw h (zs .0) (zs .1 .0)) (λ held. fsplit ! $ fsplit ! $ move ! (1 ∷ []) $ feqL ! (λ lk. move ! (1 ∷ []) $ fsplit ! $ fsplit ! $ move ! (1 ∷ []) $ feqL ! (λ lw.
         -- [the last words; …; the last keys; the tokens and what r owns; the cell; the open borrow; obs; auth; _9; …]
         move ! (3 ∷ []) $ split ! $ move ! (1 ∷ []) $
-        -- [what r owns; κ₀ and κ₁; the last words; …; the last keys; the cell (5); the open borrow; obs; auth; _9 (9); _8 (11); _7 (13); _6 (15); _5 (17); _4 (19); _3 (21); _2 (23); _1 (25); _0 (27); true]
+        -- [what r owns; κ₀ and κ₁; the last words; …; the last keys; the cell (5); the open borrow; obs; auth;
+        --  _9 (9); _8 (11); _7 (13); _6 (15); _5 (17); _4 (19); _3 (21); _2 (23); _1 (25); _0 (27); true]
         peeks ! (S.the-row) (Is (S.the-row)) (shows 𝓤 H A (S.the-row)) r (v ∷ []) (λ is′.
         land ! (from ! (stop !)) (init ! 19 refl (LL.lawful S.the-type S′.the-laws 𝓤 H A W .typed r _ is′ .0)) $
         rewrite ! 19 (λ (u : Val). ‵ (fat fullShare S′.mir l₄ 0 u)) (ap only (LL.tells S.the-type S′.the-laws r (v ∷ []) is′)) refl $
         rewrite ! 0 (λ (u : Val). ‵ (S.the-row .own r (u ∷ []))) (ap only (LL.tells S.the-type S′.the-laws r (v ∷ []) is′)) refl $
         use1 W (given (stepped-val r ∷ [] ≡ stepped-val r ∷ []) (‵ (all-own (S.the-type .parts) S′.the-laws (r .worker, (r .answer, tt))))) (own-open 𝓤 H A W S.the-type S′.the-laws (r .worker, (r .answer, tt)) (stepped-val r)) $ learn ! (λ _. fsplit ! $ move ! (1 ∷ []) $ fsplit ! $
-        -- [what the answer owns; true; what worker owns; κ₀ and κ₁; the last words (4); …; the last keys (6); the cell (7); the open borrow; obs; auth; _9 (11); _8 (13); _7 (15); _6 (17); _5 (19); _4 (21); _3 (23); _2 (25); _1 (27); _0 (29); true]
+        -- [what the answer owns; true; what worker owns; κ₀ and κ₁; the last words (4); …; the last keys (6);
+        --  the cell (7); the open borrow; obs; auth; _9 (11); _8 (13); _7 (15); _6 (17); _5 (19); _4 (21); _3 (23);
+        --  _2 (25); _1 (27); _0 (29); true]
         peeks ! (U.the-row) (Is (U.the-row)) (shows 𝓤 H A (U.the-row)) (r .answer) (answer-val (r .answer) ∷ []) (λ ist. move ! (2 ∷ []) $ peeks ! (T.the-row) (Is (T.the-row)) (shows 𝓤 H A (T.the-row)) (r .worker) (worker-val (r .worker) ∷ []) (λ isr.
         assigns ! (of-opd ! (load ! (from ! (fld ! refl (stop !))) (look-in ! 21 (sub ! 0 refl (whole !))))) (from ! (hop ! (look ! 23 refl) (stop !))) (store-raw ! 7 refl (LL.lawful T.the-type T′.the-laws 𝓤 H A W .typed (r .worker) _ isr .0)) $
         assigns ! (of-opd ! (load ! (from ! (fld ! refl (stop !))) (look-in ! 21 (sub ! 1 refl (whole !))))) (from ! (stop !)) (init ! 29 refl (EL.lawful U.the-type U′.the-laws 𝓤 H A W tt .typed (r .answer) _ ist .0)) $
         move ! (7 ∷ 0 ∷ 8 ∷ 9 ∷ 10 ∷ []) $ closes ! tt (T.the-row) (r .worker) (worker-val (r .worker) ∷ []) b o $
-        -- [obs; the borrow; κ₂; what the answer owns; true; κ₀ and κ₁; the last words; …; the last keys; _9 (9); _8 (11); … _0 (27); true]
+        -- [obs; the borrow; κ₂; what the answer owns; true; κ₀ and κ₁; the last words; …; the last keys; _9 (9);
+        --  _8 (11); … _0 (27); true]
         returns ! (look ! 27 refl) $ forget ! 9 refl $ forget ! 11 refl $ forget ! 13 refl $ forget ! 15 refl $ forget ! 17 refl $ forget ! 19 refl $ forget ! 21 refl $ forget ! 23 refl $ forget ! 25 refl $ forget ! 27 refl $
         move ! (27 ∷ 28 ∷ []) $ free1 ! $ move ! (25 ∷ 26 ∷ []) $ free1 ! $ move ! (23 ∷ 24 ∷ []) $ free1 ! $ move ! (21 ∷ 22 ∷ []) $ free1 ! $ move ! (19 ∷ 20 ∷ []) $ free1 ! $ move ! (17 ∷ 18 ∷ []) $ free1 ! $ move ! (15 ∷ 16 ∷ []) $ free1 ! $ move ! (13 ∷ 14 ∷ []) $ free1 ! $ move ! (11 ∷ 12 ∷ []) $ free1 ! $ move ! (9 ∷ 10 ∷ []) $ free1 ! $ free0 ! $
         move ! (5 ∷ []) $ split ! $ move ! (1 ∷ []) $ split ! $

@@ -1,4 +1,7 @@
--- The record is copied into a local, which is lent for a lifetime made here; the step by reference is known by its contract alone. When the lifetime has ended the local is taken back at the record that the contract names, and with the answer it is the result. A walk of the MIR by hand.
+-- A walk of the MIR by hand. The record is copied into a local, which is lent for a lifetime made here.
+-- The step by reference is known by its contract alone.
+-- When the lifetime has ended, the local is taken back at the record that the contract names.
+-- With the answer, it is the result.
 use mathlib.Core.Path.{_≡_, refl, ap}
 use Prim.Native.Nat.{ℕ}
 use mathlib.Core.List.{[], _∷_, List}
@@ -144,7 +147,8 @@ module _ {M : Type 1} (𝓤 : URA M) (H : Heap 𝓤) (A : Atoms 𝓤) (W : Given
         enter ! C Λ code.function (sliceVal (xk .ptr) (length (xk .now)) ∷ sliceVal (xw .ptr) (length (xw .now)) ∷ worker-val h ∷ []) _ $
         alloc1 ! (λ l₀. alloc1 ! (λ l₁. alloc1 ! (λ l₂. alloc1 ! (λ l₃. alloc1 ! (λ l₄. alloc1 ! (λ l₅. alloc1 ! (λ l₆. alloc1 ! (λ l₇. alloc1 ! (λ l₈. alloc1 ! (λ l₉. alloc1 ! (λ l₁₀. alloc1 ! (λ l₁₁. alloc0 ! $ params1 ! $
         pass1 ! (init ! 20 refl (mut-slice-lawful 𝓤 H A W (named 0) κ₀ i32 .typed xk _ isk .0)) $ pass1 ! (init ! 18 refl (mut-slice-lawful 𝓤 H A W (named 1) κ₁ u32 .typed xw _ isw .0)) $ pass1 ! (init ! 16 refl (LL.lawful T.the-type T′.the-laws 𝓤 H A W .typed h _ is .0)) $ pass0 ! $
-        -- [_11 (0); _10 (2); _9 (4); _8 (6); _7 (8); _6 (10); _5 (12); _4 (14); _3 (16); _2 (18); _1 (20); _0 (22); what w owns (24); κ₀ and κ₁; the slices; true]
+        -- [_11 (0); _10 (2); _9 (4); _8 (6); _7 (8); _6 (10); _5 (12); _4 (14); _3 (16); _2 (18); _1 (20); _0 (22);
+        --  what w owns (24); κ₀ and κ₁; the slices; true]
         assigns ! (of-opd ! (load ! (from ! (stop !)) (look ! 16 refl))) (from ! (stop !)) (init ! 14 refl (LL.lawful T.the-type T′.the-laws 𝓤 H A W .typed h _ is .0)) $
         assigns ! (addr ! (from ! (fld ! refl (hop ! (look-in ! 20 (sub ! 0 refl (whole !))) (stop !))))) (from ! (stop !)) (init ! 10 refl (tt, tt)) $
         assigns ! (agg ! (and-then ! (load ! (from ! (stop !)) (look ! 10 refl)) (and-then ! (load ! (from ! (fld ! refl (stop !))) (look-in ! 20 (sub ! 1 refl (whole !)))) (no-more !)))) (from ! (stop !)) (init ! 8 refl (tt, (tt, (record { fits = isk .0 .1 .0 }, tt)))) $
@@ -155,7 +159,8 @@ module _ {M : Type 1} (𝓤 : URA M) (H : Heap 𝓤) (A : Atoms 𝓤) (W : Given
         move ! (14 ∷ 24 ∷ []) $ use2 W (‵ (mem T.the-row .lies h l₄ 0)) (lies-in 𝓤 H A W h l₄) $
         lft-new ! tt (λ α. move ! (1 ∷ []) $
         use1 W (later (some (λ (γ : GName). ‵ (OwnR α l₄ γ) ⊛ ‵ (flent (α ∷ []) (Body (mem T.the-row) l₄ 0 γ))))) (lends-ref 𝓤 H A W T.the-row (named 2) (α ∷ []) h l₄ 0) $ await ! tt $ pick ! (λ γ. split ! $ move ! (2 ∷ 0 ∷ []) $ join ! $
-        -- [α and OwnR; the lender's part; _11 (2); _10 (4); _9 (6); _8 (8); _7 (10); _6 (12); _5 (14); …of _4 (16); _3 (17); _2 (19); _1 (21); _0 (23); κ₀ and κ₁ (25); the slices (26); true]
+        -- [α and OwnR; the lender's part; _11 (2); _10 (4); _9 (6); _8 (8); _7 (10); _6 (12); _5 (14); …of _4 (16);
+        --  _3 (17); _2 (19); _1 (21); _0 (23); κ₀ and κ₁ (25); the slices (26); true]
         move ! (25 ∷ 26 ∷ 0 ∷ []) $ use3 W (raw (StepIn 𝓤 H A at-mem run .pre (to-in α l₄ γ))) (goes-in α l₄ γ sized) $
         calls-at ! fm (StepIn 𝓤 H A at-mem run) known (to-in α l₄ γ) (and-then ! (load ! (from ! (stop !)) (look ! 10 refl)) (and-then ! (load ! (from ! (stop !)) (look ! 6 refl)) (and-then ! (load ! (from ! (stop !)) (look ! 4 refl)) (no-more !)))) (λ v.
         use1 W (later (some (λ (t : Answer). ((‵ (flft κ₀ q₀) ⊛ ‵ (flft κ₁ q₁) ⊛ ‵ (flft (α ∷ []) fullShare) ⊛ ‵ ftrue) ⊛ ‵ (U.the-row .own t (v ∷ []))) ⊛ raw (ensured 𝓤 H A step-in.ended (step-in.clauses 𝓤 H A at-mem run) (κ₀, (κ₁, (α ∷ [], tt))) (xk, (xw, (lending α l₄ γ, tt))) tt t)))) (id⊢ 𝓤 _) $ await ! tt $ pick ! (λ t.
@@ -163,9 +168,12 @@ module _ {M : Type 1} (𝓤 : URA M) (H : Heap 𝓤) (A : Atoms 𝓤) (W : Given
         split ! $ move ! (1 ∷ []) $ use1 W (some (λ (zs : List ℤ × (List ℕ × (Worker × Unit {0}))). ‵ (lasts step-in.ended (κ₀, (κ₁, (α ∷ [], tt))) (xk, (xw, (lending α l₄ γ, tt))) zs) ⊛ (raw (fact 𝓤 (t ≡ gave xk xw h .answer)) ⊛ (raw (fact 𝓤 (zs .1 .1 .0 ≡ gave xk xw h .worker)) ⊛ raw (fact 𝓤 (Left xk xw h (zs .0) (zs .1 .0))))))) (id⊢ 𝓤 _) $ pick ! (λ zs.
         split ! $ move ! (1 ∷ []) $ split ! $ heard ! (t ≡ gave xk xw h .answer) (λ et. split ! $ heard ! (zs .1 .1 .0 ≡ gave xk xw h .worker) (λ ew. heard ! (Left xk xw h (zs .0) (zs .1 .0)) (λ held.
         fsplit ! $ fsplit ! $ move ! (1 ∷ []) $ feqL ! (λ lk. move ! (1 ∷ []) $ fsplit ! $ fsplit ! $ move ! (1 ∷ []) $ feqL ! (λ lw. move ! (1 ∷ []) $ fsplit ! $
-        -- [the last record; true; the last words; the last keys; the tokens and what t owns; the lender's part; _11 (6); …]
+        -- [the last record; true; the last words; the last keys; the tokens and what t owns; the lender's part;
+        --  _11 (6); …]
         move ! (4 ∷ []) $ split ! $ split ! $ move ! (1 ∷ []) $ split ! $ move ! (1 ∷ []) $ split ! $ move ! (4 ∷ []) $
-        -- [what t owns; α; true; κ₁; κ₀; the last record; true; the last words; the last keys; the lender's part; _11 (10); _10 (12); _9 (14); _8 (16); _7 (18); _6 (20); _5 (22); …of _4 (24); _3 (25); _2 (27); _1 (29); _0 (31); true]
+        -- [what t owns; α; true; κ₁; κ₀; the last record; true; the last words; the last keys; the lender's part;
+        --  _11 (10); _10 (12); _9 (14); _8 (16); _7 (18); _6 (20); _5 (22); …of _4 (24); _3 (25); _2 (27); _1 (29);
+        --  _0 (31); true]
         peeks ! U.the-row (Is U.the-row) (shows 𝓤 H A U.the-row) t (v ∷ []) (λ ist.
         land ! (from ! (stop !)) (init ! 22 refl (EL.lawful U.the-type U′.the-laws 𝓤 H A W tt .typed t _ ist .0)) $
         rewrite ! 22 (λ (u : Val). ‵ (fat fullShare U′.mir l₅ 0 u)) (ap only (EL.tells U.the-type U′.the-laws t (v ∷ []) ist)) refl $
@@ -177,7 +185,8 @@ module _ {M : Type 1} (𝓤 : URA M) (H : Heap 𝓤) (A : Atoms 𝓤) (W : Given
         peeks ! T.the-row (Is T.the-row) (shows 𝓤 H A T.the-row) (zs .1 .1 .0) (worker-vals (zs .1 .1 .0)) (λ isz. move ! (2 ∷ 3 ∷ []) $ fjoin ! $ move ! (1 ∷ 0 ∷ []) $ fjoin ! $
         use1 W (‵ (S.the-row .own (record { worker = zs .1 .1 .0; answer = t }) (stepped-val (record { worker = zs .1 .1 .0; answer = t }) ∷ []))) (own-shut 𝓤 H A W S.the-type S′.the-laws (zs .1 .1 .0, (t, tt))) $
         peeks ! S.the-row (Is S.the-row) (shows 𝓤 H A S.the-row) (record { worker = zs .1 .1 .0; answer = t }) (stepped-val (record { worker = zs .1 .1 .0; answer = t }) ∷ []) (λ iss.
-        -- [what the result owns; _4; κ₁; κ₀; true; the last words; the last keys; _11 (7); _10 (9); _9 (11); _8 (13); _7 (15); _6 (17); _5 (19); …of _4 (21); _3 (22); _2 (24); _1 (26); _0 (28); true]
+        -- [what the result owns; _4; κ₁; κ₀; true; the last words; the last keys; _11 (7); _10 (9); _9 (11); _8 (13);
+        --  _7 (15); _6 (17); _5 (19); …of _4 (21); _3 (22); _2 (24); _1 (26); _0 (28); true]
         assigns ! (of-opd ! (load ! (from ! (stop !)) (look ! 1 refl))) (from ! (stop !)) (init ! 7 refl (LL.lawful T.the-type T′.the-laws 𝓤 H A W .typed (zs .1 .1 .0) _ isz .0)) $
         assigns ! (agg ! (and-then ! (load ! (from ! (stop !)) (look ! 7 refl)) (and-then ! (load ! (from ! (stop !)) (look ! 19 refl)) (no-more !)))) (from ! (stop !)) (init ! 28 refl (LL.lawful S.the-type S′.the-laws 𝓤 H A W .typed (record { worker = zs .1 .1 .0; answer = t }) _ iss .0)) $
         returns ! (look ! 28 refl) $ forget ! 1 refl $ forget ! 7 refl $ forget ! 9 refl $ forget ! 11 refl $ forget ! 13 refl $ forget ! 15 refl $ forget ! 17 refl $ forget ! 19 refl $ forget ! 22 refl $ forget ! 24 refl $ forget ! 26 refl $ forget ! 28 refl $

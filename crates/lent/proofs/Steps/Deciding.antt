@@ -1,14 +1,14 @@
--- A step decides the same in catalogues that agree, for a record in range, and leaves the record in range.
+-- A step decides the same in catalogues that agree, for a record in range, and keeps the record in range.
 use Prim.Native.Nat.{ℕ}
-use mathlib.Core.List.{List}
 use native.Mathlib.Omega.{arith}
 use lib.ListN.{replicate}
 use Rattle.catalogue.specs.Catalogue.{Catalogue}
-use Rattle.catalogue.specs.Workers.{request-of, front-of, bare, begun}
+use Rattle.catalogue.specs.Workers.{request-of, ahead, bare, begun}
 use Rattle.catalogue.specs.Steps.Places.{key-refused}
 use Rattle.catalogue.specs.Steps.Decide.{step-at, decide-at, decide, record-after}
 use Rattle.catalogue.specs.declared.workers.Place.{Place}
 use Rattle.catalogue.specs.declared.workers.Place.the-variants.{Idle, AddV, RemV, ConV, AddEFindU, RemEFindU, ConEFindU, AddEFindV, RemEFindV, ConEFindV, AddE, RemE, ConE, Trial, TrialOpen}
+use Rattle.catalogue.specs.declared.workers.Ahead.{Ahead}
 use Rattle.catalogue.specs.declared.workers.Worker.{Worker}
 use Rattle.catalogue.specs.declared.steps.Decision.{Decision}
 use Rattle.catalogue.specs.declared.steps.Decision.the-variants as decision
@@ -22,29 +22,29 @@ use Rattle.lent.proofs.Steps.Edges.{step-edge-twin, step-contains-edge-
 use Rattle.lent.proofs.Steps.Trials.{trial-shut-twin, trial-open-twin}
 
 module _ {C D : Catalogue} (a : Agree C D) where
-  step-at-twin : (place : Place) (met : List ℕ) (x front back : ℕ) → Place-near place → Near x
-      → Twin Leads-near (step-at C place met x front back) (step-at D place met x front back)
-  step-at-twin Idle met x front back h f = twin _ tt
-  step-at-twin (AddV k p c) met x front back h f = step-vertex-twin a 1 k p c (h .0) (h .1)
-  step-at-twin (RemV k p c) met x front back h f = step-vertex-twin a 2 k p c (h .0) (h .1)
-  step-at-twin (ConV k c) met x front back h f = step-contains-twin a k c h
-  step-at-twin (AddEFindU k l c) met x front back h f = step-find-u-twin a 4 k l c h
-  step-at-twin (RemEFindU k l c) met x front back h f = step-find-u-twin a 5 k l c h
-  step-at-twin (ConEFindU k l c) met x front back h f = step-find-u-twin a 6 k l c h
-  step-at-twin (AddEFindV k l u c) met x front back h f = step-find-v-twin a 4 k l u (h .0) c (h .1)
-  step-at-twin (RemEFindV k l u c) met x front back h f = step-find-v-twin a 5 k l u (h .0) c (h .1)
-  step-at-twin (ConEFindV k l u c) met x front back h f = step-find-v-twin a 6 k l u (h .0) c (h .1)
-  step-at-twin (AddE k l u v p c) met x front back h f = step-edge-twin a 4 k l u v (h .0) (h .1) p c
-  step-at-twin (RemE k l u v p c) met x front back h f = step-edge-twin a 5 k l u v (h .0) (h .1) p c
-  step-at-twin (ConE k l u v c) met x front back h f = step-contains-edge-twin a u v (h .0) (h .1) c k l
-  step-at-twin (Trial k l u v e) met x front back h f = trial-shut-twin a k l u v (h .0) (h .1) e front back x f
-  step-at-twin (TrialOpen k l u v e y c) met x front back h f = trial-open-twin a k l u v (h .0) (h .1) e front back met y c (h .2)
+  step-at-twin : (place : Place) (r : Ahead) → Place-near place → Near (r .x) → Twin Leads-near (step-at C place r) (step-at D place r)
+  step-at-twin Idle r h f = twin _ tt
+  step-at-twin (AddV k p c) r h f = step-vertex-twin a 1 k p c (h .0) (h .1)
+  step-at-twin (RemV k p c) r h f = step-vertex-twin a 2 k p c (h .0) (h .1)
+  step-at-twin (ConV k c) r h f = step-contains-twin a k c h
+  step-at-twin (AddEFindU pair c) r h f = step-find-u-twin a 4 pair c h
+  step-at-twin (RemEFindU pair c) r h f = step-find-u-twin a 5 pair c h
+  step-at-twin (ConEFindU pair c) r h f = step-find-u-twin a 6 pair c h
+  step-at-twin (AddEFindV pair u c) r h f = step-find-v-twin a 4 pair u (h .0) c (h .1)
+  step-at-twin (RemEFindV pair u c) r h f = step-find-v-twin a 5 pair u (h .0) c (h .1)
+  step-at-twin (ConEFindV pair u c) r h f = step-find-v-twin a 6 pair u (h .0) c (h .1)
+  step-at-twin (AddE ends p c) r h f = step-edge-twin a ends h 4 p c
+  step-at-twin (RemE ends p c) r h f = step-edge-twin a ends h 5 p c
+  step-at-twin (ConE ends c) r h f = step-contains-edge-twin a ends h c
+  step-at-twin (Trial ends e) r h f = trial-shut-twin a r ends h e f
+  step-at-twin (TrialOpen ends e y c) r h f = trial-open-twin a r ends (h .0) e y c (h .1)
 
   pub decide-twin : (w : Worker) → In-range w → Twin Leads-near (decide C w) (decide D w)
   unfolding decide-at
   decide-twin w r =
-      pick-twin (key-refused (request-of (w .place) .code) (request-of (w .place) .k) (request-of (w .place) .l)) (λ e. twin _ tt)
-      (λ e. step-at-twin (w .place) (w .met) (front-of w) (w .front) (w .back) (r .place) (all-read Near (w .queue) (w .front) 0 (r .queue) (omega arith)))
+      pick-twin (key-refused (request-of (w .place))) (λ e. twin _ tt)
+      (λ e. step-at-twin (w .place) (ahead (w .reach)) (r .place)
+      (all-read Near (w .reach .queue) (w .reach .front) 0 (r .queue) (omega arith)))
 
 module _ (next : Place) (h : Place-near next) where
   pub bare-in-range : In-range (bare next)
@@ -60,6 +60,6 @@ after-in-range w decision.Code r h = r
 after-in-range w (decision.Going next write) r h = bare-in-range next h
 after-in-range w (decision.Begins next write v) r h = begun-in-range next (h .0) v (h .1)
 after-in-range w (decision.Keeps next) r h = record { place = h; queue = r .queue }
-after-in-range w (decision.Meets next y) r h = record { place = h .0; queue = all-set Near (w .queue) (w .back) y (r .queue) (h .1) }
+after-in-range w (decision.Meets next y) r h = record { place = h .0; queue = all-set Near (w .reach .queue) (w .reach .back) y (r .queue) (h .1) }
 after-in-range w (decision.Takes next) r h = record { place = h; queue = r .queue }
 after-in-range w (decision.Reply number write) r h = bare-in-range Idle tt

@@ -6,7 +6,8 @@ use lib.Signed.{ltZ}
 use Rattle.catalogue.specs.Tests.{eqZ}
 use Rattle.catalogue.specs.Numbers.{head}
 use Rattle.catalogue.specs.Catalogue.{Catalogue, vertex-key}
-use Rattle.catalogue.specs.Steps.Finding.{look-for, decide-contains, step-contains, found-u, decide-find-u, step-find-u, found-v, decide-find-v, step-find-v}
+use Rattle.catalogue.specs.Steps.Finding.{look-for, decide-contains, step-contains, found-u, decide-find-u, step-find-u, found-v, ends-of, decide-find-v, step-find-v}
+use Rattle.catalogue.specs.declared.workers.Pair.{Pair}
 use Rattle.catalogue.specs.declared.steps.VertexFound.{VertexFound}
 use Rattle.catalogue.specs.declared.steps.VertexFound.the-variants as found
 use Rattle.lent.proofs.Twins.{Twin, twin, through, pick-twin}
@@ -39,26 +40,26 @@ module _ {C D : Catalogue} (a : Agree C D) where
   unfolding step-contains
   step-contains-twin k c h = through (decide-contains k) (decide-contains k) (contains-twin k) (look-twin k c h)
 
-  module _ (code : ℕ) (k l : ℤ) where
-    find-u-twin : (c : ℕ) → Near c → (s : VertexFound) → Finds-near s → Twin Leads-near (decide-find-u C code k l c s) (decide-find-u D code k l c s)
+  module _ (code : ℕ) (pair : Pair) where
+    find-u-twin : (c : ℕ) → Near c → (s : VertexFound) → Finds-near s → Twin Leads-near (decide-find-u C code pair c s) (decide-find-u D code pair c s)
     unfolding found-u
     find-u-twin c h found.Torn b = twin _ tt
-    find-u-twin c h (found.Onward next) b = twin _ (find-u-near code k l next b)
-    find-u-twin c h found.Found b = vertex-read a head (omega arith) (twin _ tt) (λ first tag b. twin _ (find-v-near code k l c h first b))
+    find-u-twin c h (found.Onward next) b = twin _ (find-u-near code pair next b)
+    find-u-twin c h found.Found b = vertex-read a head (omega arith) (twin _ tt) (λ first tag b. twin _ (find-v-near code pair c first h b))
     find-u-twin c h found.Missing b = twin _ tt
 
-    pub step-find-u-twin : (c : ℕ) → Near c → Twin Leads-near (step-find-u C code k l c) (step-find-u D code k l c)
+    pub step-find-u-twin : (c : ℕ) → Near c → Twin Leads-near (step-find-u C code pair c) (step-find-u D code pair c)
     unfolding step-find-u
-    step-find-u-twin c h = through (decide-find-u C code k l c) (decide-find-u D code k l c) (find-u-twin c h) (look-twin k c h)
+    step-find-u-twin c h = through (decide-find-u C code pair c) (decide-find-u D code pair c) (find-u-twin c h) (look-twin (pair .k) c h)
 
     module _ (u : ℕ) (g : Near u) where
-      find-v-twin : (c : ℕ) → Near c → (s : VertexFound) → Finds-near s → Twin Leads-near (decide-find-v C code k l u c s) (decide-find-v D code k l u c s)
+      find-v-twin : (c : ℕ) → Near c → (s : VertexFound) → Finds-near s → Twin Leads-near (decide-find-v C code pair u c s) (decide-find-v D code pair u c s)
       unfolding found-v
       find-v-twin c h found.Torn b = twin _ tt
-      find-v-twin c h (found.Onward next) b = twin _ (find-v-near code k l u g next b)
-      find-v-twin c h found.Found b = first-read a u g (twin _ tt) (λ first tag b. twin _ (edges-place-near code k l u g c h first))
+      find-v-twin c h (found.Onward next) b = twin _ (find-v-near code pair u next g b)
+      find-v-twin c h found.Found b = first-read a u g (twin _ tt) (λ first tag b. twin _ (edges-place-near code (ends-of pair u c) (g, h) first))
       find-v-twin c h found.Missing b = twin _ tt
 
-      pub step-find-v-twin : (c : ℕ) → Near c → Twin Leads-near (step-find-v C code k l u c) (step-find-v D code k l u c)
+      pub step-find-v-twin : (c : ℕ) → Near c → Twin Leads-near (step-find-v C code pair u c) (step-find-v D code pair u c)
       unfolding step-find-v
-      step-find-v-twin c h = through (decide-find-v C code k l u c) (decide-find-v D code k l u c) (find-v-twin c h) (look-twin l c h)
+      step-find-v-twin c h = through (decide-find-v C code pair u c) (decide-find-v D code pair u c) (find-v-twin c h) (look-twin (pair .l) c h)

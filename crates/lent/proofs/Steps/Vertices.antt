@@ -54,7 +54,7 @@ module _ {C D : Catalogue} (a : Agree C D) where
     settle-twin next equal =
         rw (a .vertices)
         (pick-twin (eqb code 1)
-        (λ e. pick-twin equal (λ e. twin _ tt) (λ e. twin _ (new-vertex-near k p c (room most-vertices 2 (D .vertices-out)))))
+        (λ e. pick-twin equal (λ e. twin _ tt) (λ e. twin _ (new-vertex-near k p c (room most-vertices 2 (D .counts .vertices)))))
         (λ e. pick-twin (eqb code 2) (λ e. pick-twin equal (λ e. twin _ tt) (λ e. twin _ tt)) (λ e. twin _ tt)))
 
     again-twin : Twin Leads-near (start-again C code k) (start-again D code k)

@@ -6,24 +6,24 @@ use mathlib.Core.Logic.{inl, inr}
 use mathlib.Core.Path.{_≡_, refl, sym, ap, _∙_, subst}
 use native.Mathlib.Omega.{arith}
 use borrow.Author.Tests.{eq-eqb}
-use lib.IntN.{ℤ}
 use lib.ListN.{length, replicate}
 use Rattle.catalogue.specs.Calls.{step}
 use Rattle.catalogue.specs.Live.{edges-of}
-use Rattle.catalogue.specs.Runs.{steps, Moment, choose, after}
+use Rattle.catalogue.specs.Choosing.{steps, Moment, choose, after}
 use Rattle.catalogue.specs.Workers.{worker-at}
 use Rattle.catalogue.specs.declared.answers.Answer.the-variants.{Reply}
+use Rattle.catalogue.specs.declared.workers.Ends.{Ends}
 use Rattle.laws.proofs.Picks.{clash}
-use Rattle.row.specs.Base.{upd-at, upd-other, same?}
-use Rattle.row.specs.Machine.Runs
+use Rattle.row.proofs.Base.{upd-at, upd-other, same?}
+use Rattle.row.specs.Machine.Choices
 use Rattle.row.specs.Machine.World
-use Rattle.row.specs.Machine.World.{World, Hunt, hunt-from, Trial}
+use Rattle.row.specs.Machine.World.{World, Hunt, hunt-from}
 use Rattle.row.specs.Machine.Moves.{move}
-use Rattle.row.specs.Machine.Runs.{resting, Conf, act}
-use Rattle.row.specs.Steps.Spots.{Ok}
+use Rattle.row.specs.Machine.Choices.{resting, Conf, act}
+use Rattle.row.proofs.Steps.Spots.{Ok}
 use Rattle.promises.specs.Moments.{at}
 use Rattle.promises.specs.Bounds.{step-replies, Unanswered, also, taken-by, edges-taken, TrialAlone}
-use Rattle.promises.proofs.Showing.Shows.{Stands, Hunted}
+use Rattle.promises.proofs.Showing.Shows.{Stands, Hunted, at-trial}
 use Rattle.promises.proofs.Showing.Pools.{vertices-in-pool, edges-in-pool}
 use Rattle.promises.proofs.Showing.Weighing.{weigh, weigh-none, weigh-same, total-two}
 use Rattle.promises.proofs.Lists.Meets.{edges-walk}
@@ -43,25 +43,25 @@ fresh-tally W v = record {
   spent = sym (weigh-none (cost W) 256);
 }
 
-module _ (workers : ℕ) (most : workers ≤ 8) (w : ℕ) (low : w < workers) (k l : ℤ) (u v e : ℕ) where
+module _ (workers : ℕ) (most : workers ≤ 8) (w : ℕ) (low : w < workers) (ends : Ends) (e : ℕ) where
   -- w is on trial, after i steps
   record Trying (i : ℕ) (m : Moment) : Type 0 where
     conf : Conf
     held : Held workers m conf
     hunt : Hunt
-    stands : conf .at w ≡ Trial k l u v e hunt
-    tally : Tally (conf .world) v i hunt
+    stands : conf .at w ≡ at-trial ends e hunt
+    tally : Tally (conf .world) (ends .v) i hunt
 
   module _ (i : ℕ) (m : Moment) (t : Trying i m) where
     abbrev W : World
     W = t .conf .world
 
-    hunted : Hunted (W .v .used) (worker-at (m .table) w) (t .hunt)
+    hunted : Hunted (W .v .used) (worker-at (m .table) w .reach) (t .hunt)
     hunted =
-        let s : Stands (W .v .used) (worker-at (m .table) w) (Trial k l u v e (t .hunt)) = rw (t .stands) at (t .held .shown w (omega arith) .stands) in
+        let s : Stands (W .v .used) (worker-at (m .table) w) (at-trial ends e (t .hunt)) = rw (t .stands) at (t .held .shown w (omega arith) .stands) in
         s .1
 
-    ok : Ok W (Trial k l u v e (t .hunt))
+    ok : Ok W (at-trial ends e (t .hunt))
     ok = rw (t .stands) at (t .held .fine .ok w)
 
     acts : Carried workers (t .conf) w (step (m .catalogue) (m .table) w)
@@ -70,21 +70,21 @@ module _ (workers : ℕ) (most : workers ≤ 8) (w : ℕ) (low : w < workers) (k
         (busy-is (W .v .used) (worker-at (m .table) w) (t .conf .at w) (t .held .shown w (omega arith) .stands) ∙ ap (λ s. not (resting s)) (t .stands))
 
     -- what the machine answers
-    answers : move W (Trial k l u v e (t .hunt)) .answer ≡ move W (t .conf .at w) .answer
+    answers : move W (at-trial ends e (t .hunt)) .answer ≡ move W (t .conf .at w) .answer
     answers = ap (λ s. move W s .answer) (sym (t .stands))
 
     goes-on : step-replies w m ≡ false → Trying (suc i) (choose m (steps w) .moment)
     goes-on q =
         let C = m .catalogue in
-        let c = counts W (t .held .fine .good) (vertices-in-pool C W (t .held .shows)) (edges-in-pool C W (t .held .shows)) k l u v e i (t .hunt)
+        let c = counts W (t .held .fine .good) (vertices-in-pool C W (t .held .shows)) (edges-in-pool C W (t .held .shows)) (ends .pair .k) (ends .pair .l) (ends .u) (ends .v) e i (t .hunt)
         (hunted .searched) (ok .2 .place) (t .tally) (answers ∙ silent acts q) in
         let n = ap (move W) (t .stands) ∙ c .is in
         record {
-          conf = act (t .conf) (Runs.steps w);
+          conf = act (t .conf) (Choices.steps w);
           held = acts .held;
           hunt = c .hunt;
           stands = upd-at (t .conf .at) w (move W (t .conf .at w) .spot) w refl ∙ ap (λ (o : World.Next). o .spot) n;
-          tally = subst (λ (Y : World). Tally Y v (suc i) (c .hunt)) (sym (ap (λ (o : World.Next). o .world) n)) (c .tally);
+          tally = subst (λ (Y : World). Tally Y (ends .v) (suc i) (c .hunt)) (sym (ap (λ (o : World.Next). o .world) n)) (c .tally);
         }
 
     -- how many edge nodes there are in the list of x
@@ -97,19 +97,19 @@ module _ (workers : ℕ) (most : workers ≤ 8) (w : ℕ) (low : w < workers) (k
         let s = hunted .searched .met-series x (hunted .searched .taken-met x p) in
         ap (λ (es : List ℕ). 2 + length es) (sym (edges-walk (m .catalogue) W (t .held .shows) (t .held .fine .good) x (s .low) (s .high))))
 
-    ends : step (m .catalogue) (m .table) w .answer ≡ Reply 1 → suc i ≡ 2 * length (taken-by m w) + edges-taken m w + 1
-    ends q =
-        let c = ends-closed W k l u v e (t .hunt) (answers ∙ (sym (acts .same-reply) ∙ ap replied q)) in
+    replied-one : step (m .catalogue) (m .table) w .answer ≡ Reply 1 → suc i ≡ 2 * length (taken-by m w) + edges-taken m w + 1
+    replied-one q =
+        let c = ends-closed W (ends .pair .k) (ends .pair .l) (ends .u) (ends .v) e (t .hunt) (answers ∙ (sym (acts .same-reply) ∙ ap replied q)) in
         let spent : i + 0 ≡ weigh (cost W) (t .hunt .taken) 256 = rw c at (t .tally .spent) in
         let all : i + 0 ≡ 2 * length (taken-by m w) + edges-taken m w =
-        spent ∙ (same-cost ∙ (sym (hunted .weighed (λ x. 2 + listed x)) ∙ total-two listed (taken-by m w))) in
+        spent ∙ (same-cost ∙ (sym (hunted .queued .weighed (λ x. 2 + listed x)) ∙ total-two listed (taken-by m w))) in
         omega (arith, all)
 
   counted : (n i : ℕ) (m : Moment) → Trying i m → Unanswered w m (replicate n (steps w))
       → (let last : Moment = after m (replicate n (steps w)) in
       step (last .catalogue) (last .table) w .answer ≡ Reply 1 → suc (i + n) ≡ 2 * length (taken-by last w) + edges-taken last w + 1)
   unfolding after
-  counted zero i m t u = λ r. (let same : suc (i + 0) ≡ suc i = omega arith in same ∙ ends i m t r)
+  counted zero i m t u = λ r. (let same : suc (i + 0) ≡ suc i = omega arith in same ∙ replied-one i m t r)
   counted (suc n) i m t (also q u) = λ r.
       (let same : suc (i + suc n) ≡ suc (suc i + n) = omega arith in
       same ∙ counted n (suc i) (choose m (steps w) .moment) (goes-on i m t (q (eq-eqb w w refl))) u r)
@@ -118,7 +118,7 @@ pub trial-alone : TrialAlone
 trial-alone workers choices g w i n u r =
     let z = held-at workers choices g in
     let b = inserts workers w (g .most) (at workers choices) (z .0) (z .1) i in
-    let t : Trying workers (g .most) w (b .low) (b .k) (b .l) (b .u) (b .v) (b .e) 0 (choose (at workers choices) (steps w) .moment) =
-    record { conf = b .conf; held = b .held; hunt = hunt-from (b .v); stands = b .trial; tally = fresh-tally (b .conf .world) (b .v) } in
+    let t : Trying workers (g .most) w (b .low) (b .ends) (b .e) 0 (choose (at workers choices) (steps w) .moment) =
+    record { conf = b .conf; held = b .held; hunt = hunt-from (b .ends .v); stands = b .trial; tally = fresh-tally (b .conf .world) (b .ends .v) } in
     let same : suc n ≡ suc (0 + n) = omega arith in
-    same ∙ counted workers (g .most) w (b .low) (b .k) (b .l) (b .u) (b .v) (b .e) n 0 (choose (at workers choices) (steps w) .moment) t u r
+    same ∙ counted workers (g .most) w (b .low) (b .ends) (b .e) n 0 (choose (at workers choices) (steps w) .moment) t u r

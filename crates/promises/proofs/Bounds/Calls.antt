@@ -3,17 +3,17 @@ use Prim.Native.Nat.{ℕ, suc, _≤_}
 use mathlib.Core.Bool.{true}
 use mathlib.Core.Path.{_≡_, refl}
 use native.Mathlib.Omega.{arith}
-use lib.IntN.{ℤ}
 use Rattle.catalogue.specs.Calls.{After}
-use Rattle.catalogue.specs.Runs.{Moment}
-use Rattle.catalogue.specs.Workers.{bare}
+use Rattle.catalogue.specs.Choosing.{Moment}
+use Rattle.catalogue.specs.Workers.{bare, asks-pair}
 use Rattle.catalogue.specs.Steps.Places.{first-place}
+use Rattle.catalogue.specs.declared.workers.Pair.{Pair}
 use Rattle.laws.proofs.Picks.{clash}
-use Rattle.row.specs.Base.{upd-at}
+use Rattle.row.proofs.Base.{upd-at}
 use Rattle.row.specs.Machine.Vertices.{addV, remV, conV}
 use Rattle.row.specs.Machine.World.{World, Ask, vert, addE, remE, conE, Spot}
-use Rattle.row.specs.Machine.Runs.{Conf, starts}
-use Rattle.row.specs.Graphs.Good.{WGood}
+use Rattle.row.specs.Machine.Choices.{Conf, starts}
+use Rattle.row.proofs.Graphs.Good.{WGood}
 use Rattle.promises.specs.Moments.{at}
 use Rattle.promises.specs.Histories.{accepted}
 use Rattle.promises.specs.Bounds.{Quiet-most, Call-most, ConVBound, ConEBound}
@@ -33,25 +33,26 @@ pub record First (W : World) (s : Spot) (most : ℕ) : Type 0 where
 
 -- a request whose first place has a limit
 abbrev Begins : ℕ → ℕ → Type 0
-Begins code most = (W : World) → WGood W → (used : ℕ) (k l : ℤ) (c : ℕ) (q : Ask) → Stands used (bare (first-place code k l c)) (starts W q) → First W (starts W q) most
+Begins code most = (W : World) → WGood W → (used : ℕ) (pair : Pair) (c : ℕ) (q : Ask)
+    → Stands used (bare (first-place (asks-pair code pair) c)) (starts W q) → First W (starts W q) most
 
 con-v-begins : Begins 3 254
 unfolding first-place
-con-v-begins W g used k l c (vert (addV j)) p = clash (cc)
-con-v-begins W g used k l c (vert (remV j)) p = clash (cc)
-con-v-begins W g used k l c (vert (conV j)) p = record { limited = refl; enters = tt; begun = head-passed W g }
-con-v-begins W g used k l c (addE i j) p = clash (cc)
-con-v-begins W g used k l c (remE i j) p = clash (cc)
-con-v-begins W g used k l c (conE i j) p = clash (cc)
+con-v-begins W g used pair c (vert (addV j)) p = clash (cc)
+con-v-begins W g used pair c (vert (remV j)) p = clash (cc)
+con-v-begins W g used pair c (vert (conV j)) p = record { limited = refl; enters = tt; begun = head-passed W g }
+con-v-begins W g used pair c (addE i j) p = clash (cc)
+con-v-begins W g used pair c (remE i j) p = clash (cc)
+con-v-begins W g used pair c (conE i j) p = clash (cc)
 
 con-e-begins : Begins 6 2557
 unfolding first-place
-con-e-begins W g used k l c (vert (addV j)) p = clash (cc)
-con-e-begins W g used k l c (vert (remV j)) p = clash (cc)
-con-e-begins W g used k l c (vert (conV j)) p = clash (cc)
-con-e-begins W g used k l c (addE i j) p = clash (cc)
-con-e-begins W g used k l c (remE i j) p = clash (cc)
-con-e-begins W g used k l c (conE i j) p = record { limited = refl; enters = tt; begun = head-passed W g }
+con-e-begins W g used pair c (vert (addV j)) p = clash (cc)
+con-e-begins W g used pair c (vert (remV j)) p = clash (cc)
+con-e-begins W g used pair c (vert (conV j)) p = clash (cc)
+con-e-begins W g used pair c (addE i j) p = clash (cc)
+con-e-begins W g used pair c (remE i j) p = clash (cc)
+con-e-begins W g used pair c (conE i j) p = record { limited = refl; enters = tt; begun = head-passed W g }
 
 -- as many steps as its limit allows, from where it begins
 pub from-first : (workers w most : ℕ) → workers ≤ 8 → (m : Moment) (X : Conf) → Held workers m X → First (X .world) (X .at w) most → Quiet-most w most m
@@ -59,17 +60,17 @@ from-first workers w most eight m X h f cs ks u =
     omega (arith, f .limited, f .begun, bounded workers eight w m X (record { held = h; enters = f .enters; some = omega (arith, f .limited) }) cs ks u)
 
 call-most : (code most : ℕ) → Begins code most → Call-most code most
-call-most code most first workers choices g w k l q =
+call-most code most first workers choices g w pair keys =
     let m : Moment = at workers choices in
     let z = held-at workers choices g in
     let X : Conf = z .0 in
     let h : Held workers m X = z .1 in
-    taking-both workers m X h (g .most) w code k l
+    taking-both workers m X h (g .most) w (asks-pair code pair)
     (λ (a : After). accepted (a .answer) ≡ true → Quiet-most w most (record { catalogue = a .catalogue; table = a .table }))
     (λ r t e. clash (cc))
-    (λ low b c r e.
-    let y = begins workers m X h (g .most) w code k l (q .0) (q .1) low b c r in
-    let f = first (X .world) (h .fine .good) (X .world .v .used) k l (X .world .v .next 0) (y .ask) (y .shown .stands) in
+    (λ z e.
+    let y = begins workers m X h (g .most) w (asks-pair code pair) keys z in
+    let f = first (X .world) (h .fine .good) (X .world .v .used) pair (X .world .v .next 0) (y .ask) (y .shown .stands) in
     from-first workers w most (g .most) _ _ (y .held) (rw (upd-at (X .at) w (starts (X .world) (y .ask)) w refl) f))
 
 pub con-v-bound : ConVBound

@@ -1,4 +1,5 @@
--- What a trial alone spends on a vertex: two steps, and one for each edge node in its list, whose length falls by one from node to node.
+-- What a trial alone spends on a vertex: two steps, and one for each edge node in its list,
+-- whose length falls by one from node to node.
 use Prim.Native.Nat.{ℕ, suc, _+_, _≤_, _<_}
 use mathlib.Core.List.{List}
 use mathlib.Core.Logic.{inl, inr}
@@ -10,7 +11,7 @@ use Rattle.catalogue.specs.Live.{walk}
 use Rattle.laws.proofs.Walks.{walk-end, walk-step}
 use Rattle.row.specs.Lists.Edges.{at, Mine}
 use Rattle.row.specs.Machine.World.{World, Opened, closed, opened}
-use Rattle.row.specs.Graphs.Good.{WGood}
+use Rattle.row.proofs.Graphs.Good.{WGood}
 use Rattle.promises.proofs.Lists.Walked.{spare, walk-spare}
 
 -- how long a list is from an edge on

@@ -1,4 +1,5 @@
--- Counting the numbers below a bound that pass a test: where a test passes more, or there are more numbers, the count is no less.
+-- Counting the numbers below a bound that pass a test:
+-- where a test passes more, or there are more numbers, the count is no less.
 use Prim.Native.Nat.{ℕ, zero, suc, _≤_, _<_}
 use mathlib.Core.Bool.{Bool, true, false}
 use mathlib.Core.Logic.{inl, inr}
@@ -6,7 +7,7 @@ use mathlib.Core.Path.{_≡_, refl}
 use native.Mathlib.Omega.{arith}
 use Rattle.catalogue.specs.Tests.{pick}
 use Rattle.catalogue.specs.Workers.{count}
-use Rattle.row.specs.Base.{same?}
+use Rattle.row.proofs.Base.{same?}
 
 pick-le : (a b : Bool) → (a ≡ true → b ≡ true) → pick a 1 0 ≤ pick b 1 0
 pick-le true b h = rw (h refl) (omega arith)

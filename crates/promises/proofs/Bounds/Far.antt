@@ -10,7 +10,7 @@ use Rattle.catalogue.specs.Tests.{pick}
 use Rattle.catalogue.specs.Workers.{count}
 use Rattle.row.specs.Machine.Vertices.{Idle, AddV, RemV, ConV}
 use Rattle.row.specs.Machine.World.{World, adds, rems, cons, Opened, closed, opened, Spot, Rest, Vert, FindU, FindV, LookE, ConE, Trial}
-use Rattle.row.specs.Tests.{and-true}
+use Rattle.row.proofs.Tests.{and-true}
 use Rattle.promises.proofs.Bounds.Counting.{count-le}
 
 -- ---- what is passed
@@ -43,7 +43,8 @@ abbrev pub far-in : World → (ℕ → Bool) → Opened → ℕ
 far-in W taken closed = 1 + 2 * count taken 256 + edges-that W (over taken)
 far-in W taken (opened x c) = 2 * count taken 256 + edges-that W (behind taken x (W .e .key c))
 
--- in a walk over vertices those below the key where it stands, the head among them; a walk over edges comes after two such walks
+-- in a walk over vertices those below the key where it stands, the head among them;
+-- a walk over edges comes after two such walks
 abbrev pub far : World → Spot → ℕ
 far W Rest = 0
 far W (Vert Idle) = 0

@@ -1,4 +1,5 @@
--- Wherever a call with a bound stands, it is within its limit, and its own step that is not replied to takes it further.
+-- Wherever a call with a bound stands, it is within its limit,
+-- and its own step that is not replied to takes it further.
 use Prim.Native.Nat.{ℕ, _≤_}
 use mathlib.Core.Bool.{Bool, false}
 use native.Mathlib.Omega.{arith}
@@ -7,8 +8,8 @@ use Rattle.catalogue.specs.declared.workers.Worker.{Worker}
 use Rattle.row.specs.Machine.Vertices.{Idle, AddV, RemV, ConV}
 use Rattle.row.specs.Machine.World.{World, adds, rems, cons, Opened, closed, opened, Spot, Rest, Vert, FindU, FindV, LookE, ConE, Trial}
 use Rattle.row.specs.Machine.Moves.{move}
-use Rattle.row.specs.Steps.Spots.{Ok}
-use Rattle.row.specs.Graphs.Good.{WGood}
+use Rattle.row.proofs.Steps.Spots.{Ok}
+use Rattle.row.proofs.Graphs.Good.{WGood}
 use Rattle.promises.proofs.Showing.Shows.{Stands}
 use Rattle.promises.proofs.Bounds.Far.{over, behind, far-in, far, limit, entered, vertices-most, edges-most}
 use Rattle.promises.proofs.Bounds.Looking.{OnlyFurther, con-v-further, find-u-further, find-v-further, con-e-further}

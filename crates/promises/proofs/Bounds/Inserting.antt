@@ -2,64 +2,37 @@
 use Prim.Native.Nat.{ℕ, _≤_, _<_}
 use mathlib.Core.Bool.{Bool, true, false, cond, not}
 use mathlib.Core.Logic.{inl, inr}
-use mathlib.Core.Path.{_≡_, refl, sym, ap, _∙_}
+use mathlib.Core.Path.{_≡_, refl, ap, _∙_}
 use native.Mathlib.Omega.{arith}
 use lib.Dec.{leb}
 use lib.IntN.{ℤ}
 use lib.ListN.{List·getD-eq-default}
 use Rattle.catalogue.specs.Tests.{eqZ}
-use Rattle.catalogue.specs.Runs.{Moment, choose, steps}
+use Rattle.catalogue.specs.Choosing.{Moment, choose, steps}
 use Rattle.catalogue.specs.Workers.{blank, worker-at, busy-at, busy}
 use Rattle.catalogue.specs.declared.workers.Place.the-variants as place
-use Rattle.catalogue.specs.declared.workers.Prev.{Prev}
 use Rattle.catalogue.specs.declared.workers.Worker.{Worker}
 use Rattle.laws.proofs.Picks.{clash}
-use Rattle.row.specs.Base.{upd-at, lt-or}
-use Rattle.row.specs.Machine.Vertices.{Idle, AddV, RemV, ConV}
+use Rattle.row.proofs.Base.{upd-at, lt-or}
 use Rattle.row.specs.Lists.Edges
 use Rattle.row.specs.Lists.Edges.{einsert}
-use Rattle.row.specs.Machine.Runs
-use Rattle.row.specs.Machine.World.{World, with-e, adds, rems, cons, Opened, closed, opened, hunt-from, Spot, Rest, Vert, FindU, FindV, LookE, ConE, Trial, goes, says, is-added}
+use Rattle.row.specs.Machine.Choices
+use Rattle.row.specs.Machine.Choices.{resting, Conf, act}
+use Rattle.row.specs.Machine.World.{World, with-e, hunt-from, Spot, LookE, Trial, goes, says, is-added}
 use Rattle.row.specs.Machine.Moves.{ESeen, e-dead, e-again, e-passes, e-marks, e-onward, e-settle, elook, look-e, move}
-use Rattle.row.specs.Machine.Runs.{resting, Conf, act}
 use Rattle.promises.specs.Moments.{at}
 use Rattle.promises.specs.Bounds.{Inserts, TrialBound}
-use Rattle.promises.proofs.Showing.Shows.{Stands, trial-place}
+use Rattle.promises.proofs.Showing.Shows.{Stands, between, at-look, at-trial}
 use Rattle.promises.proofs.Runs.Held.{Held, busy-is}
 use Rattle.promises.proofs.Runs.Course.{held-at}
 use Rattle.promises.proofs.Bounds.OwnStep.{own-step}
 use Rattle.promises.proofs.Bounds.Calls.{from-first}
+use Rattle.catalogue.specs.declared.workers.Ends.{Ends}
+use Rattle.promises.proofs.Outside.Spots.{adds-spot}
 
 module _ (k l : ℤ) (u v : ℕ) where
-  -- who looks for the place of an edge
-  record Sought (s : Spot) : Type 0 where
-    before : Edges.Prev
-    current : ℕ
-    looks : s ≡ LookE true k l u v before current
-
-  sought : (used : ℕ) (r : Worker) (p : Prev) (c : ℕ) → r .place ≡ place.AddE k l u v p c → (s : Spot) → Stands used r s → Sought s
-  sought used r p c e Rest t = clash (cc)
-  sought used r p c e (Vert Idle) t = absurd t
-  sought used r p c e (Vert (AddV j q d)) t = clash (cc)
-  sought used r p c e (Vert (RemV j q d)) t = clash (cc)
-  sought used r p c e (Vert (ConV j d)) t = clash (cc)
-  sought used r p c e (FindU adds i j d) t = clash (cc)
-  sought used r p c e (FindU rems i j d) t = clash (cc)
-  sought used r p c e (FindU cons i j d) t = clash (cc)
-  sought used r p c e (FindV adds i j x d) t = clash (cc)
-  sought used r p c e (FindV rems i j x d) t = clash (cc)
-  sought used r p c e (FindV cons i j x d) t = clash (cc)
-  sought used r p c e (LookE true i j x y q d) t = record { before = q; current = d; looks = cc (t .0) }
-  sought used r p c e (LookE false i j x y q d) t = clash (cc (t .0))
-  sought used r p c e (ConE i j x y d) t = clash (cc)
-  sought used r p c e (Trial i j x y f h) t = by (h .stand) (sym (t .0) ∙ e)
-    where
-      by : (o : Opened) → trial-place i j x y f o ≡ place.AddE k l u v p c → Sought (Trial i j x y f h)
-      by closed z = clash (cc)
-      by (opened a b) z = clash (cc)
-
-  -- who is on trial after its step has just begun
-  tried : (W : World) (used : ℕ) (r : Worker) (e : ℕ) → r .place ≡ place.Trial k l u v e → (q : Edges.Prev) (c : ℕ)
+  -- a worker that is on trial after its step has just begun
+  tried : (W : World) (used : ℕ) (r : Worker) (e : ℕ) → r .place ≡ place.Trial (between k l u v) e → (q : Edges.Prev) (c : ℕ)
       → Stands used r (move W (LookE true k l u v q c) .spot) → move W (LookE true k l u v q c) .spot ≡ Trial k l u v (W .e .used) (hunt-from v)
   tried W used r e z q c = by (elook W l u v q c)
     where
@@ -85,15 +58,12 @@ pub record Begun (workers w : ℕ) (m : Moment) : Type 0 where
   pub low : w < workers
   pub conf : Conf
   pub held : Held workers m conf
-  pub k : ℤ
-  pub l : ℤ
-  pub u : ℕ
-  pub v : ℕ
+  pub ends : Ends
   pub e : ℕ
-  pub trial : conf .at w ≡ Trial k l u v e (hunt-from v)
+  pub trial : conf .at w ≡ at-trial ends e (hunt-from (ends .v))
 
 module _ (workers w : ℕ) (most : workers ≤ 8) (m : Moment) (X : Conf) (h : Held workers m X) where
-  -- beyond the table nobody is busy
+  -- beyond the table no worker is busy
   below : busy (m .table) w ≡ true → w < workers
   below b =
       elim (lt-or w workers) [
@@ -110,23 +80,22 @@ module _ (workers w : ℕ) (most : workers ≤ 8) (m : Moment) (X : Conf) (h : H
   inserts i =
       let b : busy (m .table) w ≡ true = ap busy-at (i .before) in
       let low : w < workers = below b in
-      let s = sought (i .k) (i .l) (i .u) (i .v) (X .world .v .used) (worker-at (m .table) w) (i .p) (i .c) (i .before) (X .at w) (h .shown w (omega arith) .stands) in
+      let n = i .ends in
+      let s = adds-spot (X .world .v .used) (worker-at (m .table) w) (X .at w) (h .shown w (omega arith) .stands) n (i .p) (i .c) (i .before) in
       let o = own-step workers m X h most w low b in
-      let Y : Conf = act X (Runs.steps w) in
-      let from : Spot = LookE true (i .k) (i .l) (i .u) (i .v) (s .before) (s .current) in
+      let Y : Conf = act X (Choices.steps w) in
+      let from : Spot = at-look true n (s .behind) (i .c) in
       let e : Y .at w ≡ move (X .world) from .spot =
-      upd-at (X .at) w (move (X .world) (X .at w) .spot) w refl ∙ ap (λ z. move (X .world) z .spot) (s .looks) in
-      let t : Stands (Y .world .v .used) (worker-at (choose m (steps w) .moment .table) w) (move (X .world) from .spot) = rw e at (o .held .shown w (omega arith) .stands) in
+      upd-at (X .at) w (move (X .world) (X .at w) .spot) w refl ∙ ap (λ z. move (X .world) z .spot) (s .is) in
+      let r : Worker = worker-at (choose m (steps w) .moment .table) w in
+      let t : Stands (Y .world .v .used) r (move (X .world) from .spot) = rw e at (o .held .shown w (omega arith) .stands) in
       record {
         low = low;
         conf = Y;
         held = o .held;
-        k = i .k;
-        l = i .l;
-        u = i .u;
-        v = i .v;
+        ends = n;
         e = X .world .e .used;
-        trial = e ∙ tried (i .k) (i .l) (i .u) (i .v) (X .world) (Y .world .v .used) (worker-at (choose m (steps w) .moment .table) w) (i .e) (i .tried) (s .before) (s .current) t;
+        trial = e ∙ tried (n .pair .k) (n .pair .l) (n .u) (n .v) (X .world) (Y .world .v .used) r (i .e) (i .tried) (s .behind) (i .c) t;
       }
 
 pub trial-bound : TrialBound

@@ -1,4 +1,4 @@
--- Others' steps leave a call as far as it was: keys and owners stay, and nodes are only added.
+-- Others' steps keep a call as far as it was: keys and owners are unchanged, and nodes are only added.
 use Prim.Native.Nat.{ℕ, zero, suc, _≤_, _<_}
 use mathlib.Core.Bool.{Bool, false}
 use mathlib.Core.Logic.{inl, inr}
@@ -10,26 +10,20 @@ use lib.IntN.{ℤ}
 use Rattle.row.specs.Machine.Vertices.{Idle, AddV, RemV, ConV}
 use Rattle.row.specs.Lists.Edges.{at, InList, Mine}
 use Rattle.row.specs.Machine.World.{World, Opened, closed, opened, Spot, Rest, Vert, FindU, FindV, LookE, ConE, Trial}
-use Rattle.row.specs.Tests.{and-true}
-use Rattle.row.specs.Graphs.Good.{WGood}
-use Rattle.row.specs.Steps.Spots.{StandOk, Ok}
-use Rattle.row.specs.Runs.Course.{Both}
+use Rattle.row.proofs.Tests.{and-true}
+use Rattle.row.proofs.Graphs.Good.{WGood}
+use Rattle.row.proofs.Steps.Spots.{StandOk, Ok}
+use Rattle.row.proofs.Events.Fine.{Both, more-vertices}
 use Rattle.promises.proofs.Bounds.Counting.{count-le}
 use Rattle.promises.proofs.Bounds.Far.{below, vertices-passed, among, edges-that, over, behind, far-in, far}
 
 module _ (W X : World) (b : Both W X) (g : WGood W) (g′ : WGood X) where
-  more-vertices : W .v .used ≤ X .v .used
-  more-vertices = by (W .v .used) (g .good .sound .some) (b .vm .stays)
-    where
-      by : (n : ℕ) {m : ℕ} → 2 ≤ n → ((x : ℕ) → x < n → x < m) → n ≤ m
-      by (suc n) h s = s n (omega arith)
-
   vertices-kept : (c : ℕ) → c < W .v .used → vertices-passed W c ≤ vertices-passed X c
   vertices-kept c h =
       rw (b .vm .key-kept c h)
-      (count-le (below (W .v .key) (W .v .key c)) (below (X .v .key) (W .v .key c)) (W .v .used) (X .v .used) more-vertices (λ x l t. rw (b .vm .key-kept x l) t))
+      (count-le (below (W .v .key) (W .v .key c)) (below (X .v .key) (W .v .key c)) (W .v .used) (X .v .used) (more-vertices g b) (λ x l t. rw (b .vm .key-kept x l) t))
 
-  -- an edge stays its owner's
+  -- an edge keeps its owner
   module _ (e : ℕ) (low : 1 ≤ e) (high : e < W .e .used) where
     listed : Mine (W .e) (W .e .owner e) (at e)
     listed = inr (record { low = low; high = high; own = refl })

@@ -1,4 +1,5 @@
--- A step of a call that only looks, and is not replied to, takes it further: it moves on to a greater key, or to the next walk.
+-- A step of a call that only looks, and is not replied to, takes it further:
+-- it moves on to a greater key, or to the next walk.
 use Prim.Native.Nat.{ℕ, suc, _≤_, _<_}
 use mathlib.Core.Bool.{Bool, true, false, cond, not, _&&_, _||_}
 use mathlib.Core.Logic.{inl}
@@ -7,22 +8,22 @@ use mathlib.Core.Path.{_≡_, refl}
 use native.Mathlib.Omega.{arith}
 use lib.Dec.{eqb}
 use lib.IntN.{ℤ}
-use lib.Signed.{ltZ, <ℤ-irrefl}
+use lib.Signed.{ltZ}
 use Rattle.catalogue.specs.Tests.{eqZ}
-use Rattle.catalogue.specs.Numbers.{greatest}
 use Rattle.laws.proofs.Picks.{clash}
-use Rattle.row.specs.Base.{<ℤ-trans, ltZ-true}
+use Rattle.row.proofs.Base.{ltZ-true}
 use Rattle.row.specs.Machine.Vertices.{ConV, going, replies}
 use Rattle.row.specs.Lists.Edges.{at, Mine}
 use Rattle.row.specs.Machine.World.{World, cons, Spot, Vert, FindU, FindV, ConE, Next, goes, says, is-added}
 use Rattle.row.specs.Machine.Moves.{vmove, lower, found, missing, find-u, find-v, move}
-use Rattle.row.specs.Steps.VertexDeeds.{Legal}
-use Rattle.row.specs.Graphs.Good.{WGood}
-use Rattle.promises.proofs.Showing.Tail.{no-tail, below-tail}
+use Rattle.row.proofs.Steps.VertexDeeds.{Legal, not-tail}
+use Rattle.row.proofs.Graphs.Good.{WGood}
+use Rattle.row.proofs.Lists.LinkLaws.{no-tail}
+use Rattle.row.proofs.Steps.EdgeMeans.{below-tail}
 use Rattle.promises.proofs.Bounds.Far.{vertices-passed, far, limit, entered, vertices-most}
 use Rattle.promises.proofs.Bounds.Passing.{vertex-passed, edge-passed}
 
--- where a step leaves a call: further, and under the same limit
+-- where a call is after a step: further, and under the same limit
 pub record Further (W : World) (s : Spot) (n : Next) : Type 0 where
   pub same : limit (n .spot) ≡ limit s
   pub enters : entered (n .spot)
@@ -33,13 +34,10 @@ abbrev pub OnlyFurther : World → Spot → Next → Type 0
 OnlyFurther W s n = n .answer ≡ none → Further W s n
 
 module _ (W : World) (g : WGood W) where
-  inner : (c : ℕ) (k : ℤ) → Legal k → ltZ (W .v .key c) k ≡ true → c ≡ 1 → ⊥
-  inner c k h e z = <ℤ-irrefl {a = greatest} (<ℤ-trans (rw (z, g .good .key-tail) at (ltZ-true (W .v .key c) k e)) (h .high))
-
   -- a vertex of a lower key is passed
   passes-on : (c : ℕ) (k : ℤ) → Legal k → c < W .v .used → ltZ (W .v .key c) k ≡ true → suc (vertices-passed W c) ≤ vertices-passed W (W .v .next c)
   passes-on c k h l e =
-      let n = inner c k h e in
+      let n = not-tail (W .v) (g .good) k h {c = c} (inl (ltZ-true (W .v .key c) k e)) in
       vertex-passed W c (W .v .next c) l n (g .good .sound .sorted .follows c l n .above)
 
   pub con-v-further : (k : ℤ) (c : ℕ) → Legal k → c < W .v .used → OnlyFurther W (Vert (ConV k c)) (move W (Vert (ConV k c)))
@@ -51,7 +49,7 @@ module _ (W : World) (g : WGood W) where
       by false e true q = clash (cc)
       by false e false q = clash (cc)
 
-  -- whoever has left the head has passed it
+  -- a walk at the head's next has passed the head
   pub head-passed : 1 ≤ vertices-passed W (W .v .next 0)
   head-passed =
       let l : 0 < W .v .used = omega (arith, g .good .sound .some) in

@@ -1,25 +1,25 @@
--- Every choice but a busy worker's own step leaves that worker where it stands, and keeps the lists.
+-- Every choice but a busy worker's own step keeps that worker where it stands, and keeps the lists.
 use Prim.Native.Nat.{ℕ, _≤_, _<_}
 use mathlib.Core.Bool.{true, false}
-use mathlib.Core.Path.{_≡_, refl, sym, ap}
+use mathlib.Core.Path.{_≡_, refl, sym}
 use borrow.Author.Tests.{eqb-false}
-use lib.IntN.{ℤ}
 use Rattle.catalogue.specs.Calls.{After, count-fits, take-up, step}
-use Rattle.catalogue.specs.Runs.{Choice, takes, steps, sweeps, Moment, choose}
+use Rattle.catalogue.specs.Choosing.{Choice, takes, steps, sweeps, Moment, choose}
 use Rattle.catalogue.specs.Sweep.{After-sweep, sweep-into, any-busy}
 use Rattle.catalogue.specs.Workers.{busy}
 use Rattle.laws.proofs.Picks.{pick-both, clash}
-use Rattle.row.specs.Base.{upd-other}
-use Rattle.row.specs.Machine.Runs
-use Rattle.row.specs.Machine.Runs.{Conf, act}
-use Rattle.row.specs.Runs.Course.{Both, act-both}
-use Rattle.row.specs.Steps.Writes.{deed-rest}
-use Rattle.promises.specs.Moments.{Key, Keyed}
+use Rattle.row.proofs.Base.{upd-other}
+use Rattle.row.specs.Machine.Choices
+use Rattle.row.specs.Machine.Choices.{Conf, act}
+use Rattle.row.proofs.Events.Fine.{Both, act-both}
+use Rattle.row.proofs.Steps.Writes.{deed-rest}
+use Rattle.promises.specs.Moments.{Keyed, Fitting}
 use Rattle.promises.specs.Bounds.{lets}
 use Rattle.promises.proofs.Runs.Held.{Held}
 use Rattle.promises.proofs.Runs.Sweeping.{idle-below}
 use Rattle.promises.proofs.Runs.Stepping.{stepping-both}
 use Rattle.promises.proofs.Runs.Taking.{taking-both, begins}
+use Rattle.catalogue.specs.declared.workers.Request.{Request}
 
 -- another choice: w stands where it stood
 pub record Passes (workers : ℕ) (m : Moment) (X : Conf) (w : ℕ) : Type 0 where
@@ -43,18 +43,19 @@ module _ (workers : ℕ) (m : Moment) (X : Conf) (h : Held workers m X) (most : 
   steps-by v n =
       stepping-both workers m X h most v after-call (λ r t. unchanged)
       (λ c. record {
-        conf = act X (Runs.steps v);
+        conf = act X (Choices.steps v);
         held = c .held;
         same = upd-other (X .at) v _ w n;
-        both = act-both X (h .fine) (Runs.steps v) (λ W z. clash (cc));
+        both = act-both X (h .fine) (Choices.steps v) (λ W z. clash (cc));
       })
 
-  takes-by : busy (m .table) w ≡ true → (v code : ℕ) (k l : ℤ) → Key k → Key l → after-call (take-up (m .catalogue) (m .table) v code k l)
-  takes-by b v code k l hk hl =
-      taking-both workers m X h most v code k l after-call (λ r t. unchanged)
-      (λ low i c r.
-      let z = begins workers m X h most v code k l hk hl low i c r in
-      record { conf = _; held = z .held; same = upd-other (X .at) v _ w (λ e. clash (cc (ap (busy (m .table)) e))); both = still })
+  takes-by : busy (m .table) w ≡ true → (v : ℕ) (q : Request) → Fitting q → after-call (take-up (m .catalogue) (m .table) v q)
+  takes-by b v q keys =
+      taking-both workers m X h most v q after-call (λ r t. unchanged)
+      (λ f.
+      let z = begins workers m X h most v q keys f in
+      let i = f .1 .idle in
+      record { conf = _; held = z .held; same = upd-other (X .at) v _ w (λ e. clash (cc)); both = still })
 
   sweeps-by : w < workers → busy (m .table) w ≡ true → Passes workers (choose m sweeps .moment) X w
   unfolding sweep-into
@@ -68,6 +69,6 @@ module _ (workers : ℕ) (m : Moment) (X : Conf) (h : Held workers m X) (most : 
       left a = Passes workers (record { catalogue = a .second; table = m .table }) X w
 
   pub passes : w < workers → busy (m .table) w ≡ true → (c : Choice) → Keyed c → lets w c ≡ false → Passes workers (choose m c .moment) X w
-  passes low b (takes v code k l) q n = takes-by b v code k l (q .0) (q .1)
+  passes low b (takes v q) keys n = takes-by b v q keys
   passes low b (steps v) q n = steps-by v (λ e. eqb-false v w n (sym e))
   passes low b sweeps q n = sweeps-by low b

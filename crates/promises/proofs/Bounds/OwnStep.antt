@@ -6,14 +6,14 @@ use mathlib.Core.Path.{_≡_, refl, sym, _∙_}
 use native.Mathlib.Omega.{arith}
 use borrow.Author.Tests.{le-leb, lt-ltb}
 use Rattle.catalogue.specs.Calls.{After, count-fits, worker-fits, step}
-use Rattle.catalogue.specs.Runs.{Moment}
+use Rattle.catalogue.specs.Choosing.{Moment}
 use Rattle.catalogue.specs.Workers.{busy}
 use Rattle.catalogue.specs.declared.answers.Answer.{Answer}
 use Rattle.catalogue.specs.declared.answers.Answer.the-variants as answer
 use Rattle.laws.proofs.Picks.{clash}
-use Rattle.row.specs.Machine.Runs
+use Rattle.row.specs.Machine.Choices
 use Rattle.row.specs.Machine.Moves.{move}
-use Rattle.row.specs.Machine.Runs.{Conf}
+use Rattle.row.specs.Machine.Choices.{Conf}
 use Rattle.promises.specs.Bounds.{is-reply}
 use Rattle.promises.proofs.Runs.Held.{Held}
 use Rattle.promises.proofs.Runs.Stepping.{replied, Carried, carried}

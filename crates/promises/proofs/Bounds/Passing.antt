@@ -1,4 +1,4 @@
--- A walk that moves on passes the node that it leaves: one more stands below the key where it is now.
+-- A walk that moves on passes a node: one more stands below the key where it is now.
 use Prim.Native.Nat.{ℕ, suc, _≤_, _<_}
 use mathlib.Core.Bool.{Bool, true, false, not, _&&_}
 use mathlib.Core.Path.{_≡_}
@@ -9,9 +9,9 @@ use lib.Signed.{_<ℤ_, ltZ, <ℤ-irrefl}
 use Rattle.catalogue.specs.Tests.{pick}
 use Rattle.laws.proofs.Keys.{risen}
 use Rattle.laws.proofs.Rules.{not-true-false}
-use Rattle.row.specs.Base.{<ℤ-trans, ltZ-true}
+use Rattle.row.proofs.Base.{<ℤ-trans, ltZ-true}
 use Rattle.row.specs.Lists.Edges.{InList}
-use Rattle.row.specs.Tests.{and-true}
+use Rattle.row.proofs.Tests.{and-true}
 use Rattle.row.specs.Machine.World.{World}
 use Rattle.promises.proofs.Bounds.Counting.{count-more}
 use Rattle.promises.proofs.Bounds.Far.{below, vertices-passed, among, edges-that, behind}

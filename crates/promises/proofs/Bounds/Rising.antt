@@ -1,4 +1,5 @@
--- A measure that never falls by others' choices, rises with each own step that is not replied to, and is bounded, bounds these steps.
+-- A measure that never falls by others' choices, rises with each own step that is not replied to,
+-- and is bounded, bounds these steps.
 use Prim.Native.Nat.{ℕ, _+_, _≤_, _<_}
 use mathlib.Core.Bool.{Bool, true, false, not}
 use mathlib.Core.List.{List, [], _∷_}
@@ -7,13 +8,13 @@ use mathlib.Core.Path.{_≡_, refl, ap, _∙_}
 use native.Mathlib.Omega.{arith}
 use borrow.Author.Tests.{eqb-true}
 use Rattle.catalogue.specs.Tests.{pick, upd}
-use Rattle.catalogue.specs.Runs.{Choice, takes, steps, sweeps, Moment, choose}
+use Rattle.catalogue.specs.Choosing.{Choice, takes, steps, sweeps, Moment, choose}
 use Rattle.catalogue.specs.Workers.{worker-at, busy}
 use Rattle.laws.proofs.Picks.{clash}
-use Rattle.row.specs.Base.{lt-or, upd-at}
-use Rattle.row.specs.Machine.Runs
+use Rattle.row.proofs.Base.{lt-or, upd-at}
+use Rattle.row.specs.Machine.Choices
 use Rattle.row.specs.Machine.Moves.{move}
-use Rattle.row.specs.Machine.Runs.{resting, Conf, act}
+use Rattle.row.specs.Machine.Choices.{resting, Conf, act}
 use Rattle.promises.specs.Moments.{All, each, Keyed}
 use Rattle.promises.specs.Bounds.{lets, own-steps, step-replies, Unanswered, also}
 use Rattle.promises.proofs.Showing.Shows.{Stands}
@@ -27,7 +28,7 @@ use Rattle.promises.proofs.Bounds.OwnStep.{own-step, silent}
 use Rattle.promises.proofs.Bounds.Others.{passes}
 
 lets-is : (w : ℕ) (c : Choice) → lets w c ≡ true → c ≡ steps w
-lets-is w (takes v code k l) e = clash (cc)
+lets-is w (takes v q) e = clash (cc)
 lets-is w (steps v) e = ap steps (eqb-true v w e)
 lets-is w sweeps e = clash (cc)
 
@@ -43,7 +44,7 @@ module _ (workers : ℕ) (most : workers ≤ 8) (w : ℕ) where
   Left X n = n + far (X .world) (X .at w) ≤ limit (X .at w)
 
   module _ (m : Moment) (X : Conf) (g : Going m X) where
-    -- whoever has a limit is a busy worker of the table
+    -- a worker with a limit is a busy worker of the table
     low : w < workers
     low = elim (lt-or w workers) [ inl l ↦ l | inr h ↦ absurd (omega (arith, g .some, ap limit (g .held .beyond w h))) ]
 
@@ -73,7 +74,7 @@ module _ (workers : ℕ) (most : workers ≤ 8) (w : ℕ) where
         let o = move (X .world) (X .at w) in
         let f = goes-further (X .world) few few-edges (worker-at (m .table) w) (g .held .fine .good) (X .at w) (g .held .fine .ok w) stands (g .enters) (g .some) (silent s q) in
         let e : upd (X .at) w (o .spot) w ≡ o .spot = upd-at (X .at) w (o .spot) w refl in
-        let z = rest (act X (Runs.steps w)) (record { held = s .held; enters = rw e (f .enters); some = rw (e, f .same) (g .some) }) in
+        let z = rest (act X (Choices.steps w)) (record { held = s .held; enters = rw e (f .enters); some = rw (e, f .same) (g .some) }) in
         omega (arith, rw e at z, f .same, f .rises)
 
     -- another choice

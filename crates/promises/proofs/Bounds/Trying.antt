@@ -1,25 +1,26 @@
--- A step of a trial that is not replied to takes it further: it takes a vertex that it had not taken, passes an edge, or closes the open vertex.
+-- A step of a trial that is not replied to takes it further: it takes a vertex that it had not taken,
+-- passes an edge, or closes the open vertex.
 use Prim.Native.Nat.{ℕ, suc, _≤_, _<_}
-use mathlib.Core.Bool.{Bool, true, false, cond, not, _&&_, _||_}
-use mathlib.Core.List.{List, [], _∷_}
+use mathlib.Core.Bool.{Bool, true, false}
+use mathlib.Core.List.{List, _∷_}
 use mathlib.Core.Path.{_≡_, refl, ap, _∙_}
 use native.Mathlib.Omega.{arith}
-use borrow.Author.Tests.{eqb-true, eqb-false, ne-eqb, le-leb}
+use borrow.Author.Tests.{eqb-true, ne-eqb, le-leb}
 use lib.Dec.{eqb, leb}
 use lib.IntN.{ℤ}
 use Rattle.catalogue.specs.Tests.{pick, upd}
 use Rattle.catalogue.specs.Workers.{count}
 use Rattle.laws.proofs.Picks.{clash}
-use Rattle.row.specs.Tests.{or-false}
-use Rattle.row.specs.Base.{upd-at, upd-true}
-use Rattle.row.specs.Lists.Edges.{marked, at, Mine, is-marked, retag}
-use Rattle.row.specs.Machine.World.{World, with-e, Opened, closed, opened, Hunt, stands-at, meets, took, Trial, Next, goes, says}
-use Rattle.row.specs.Machine.Moves.{hunt-open, hunt-take, hunts, move}
-use Rattle.row.specs.Steps.Spots.{StandOk}
-use Rattle.row.specs.Graphs.Good.{WGood}
+use Rattle.row.proofs.Base.{upd-at, upd-true}
+use Rattle.row.specs.Lists.Edges.{at, Mine}
+use Rattle.row.specs.Machine.World.{World, Hunt, Trial, Next}
+use Rattle.row.specs.Machine.Moves.{move}
+use Rattle.row.proofs.Steps.Spots.{StandOk}
+use Rattle.row.proofs.Steps.TrialMeans.{TMeans, t-dead, t-done, t-source, t-drops, t-enters, t-closes, t-meets, t-passes, tmeans}
+use Rattle.row.proofs.Graphs.Good.{WGood}
 use Rattle.promises.proofs.Showing.Shows.{Searched}
 use Rattle.promises.proofs.Hunts.Searching.{front-met, front-new}
-use Rattle.promises.proofs.Showing.Tail.{no-tail}
+use Rattle.row.proofs.Lists.LinkLaws.{no-tail}
 use Rattle.promises.proofs.Bounds.Counting.{count-le, count-more}
 use Rattle.promises.proofs.Bounds.Far.{among, edges-that, over, behind, Entered}
 use Rattle.promises.proofs.Bounds.Passing.{both-hold, edge-passed}
@@ -57,48 +58,31 @@ module _ (W : World) (g : WGood W) (few : W .v .used ≤ 256) (k l : ℤ) (u v e
   abbrev Goes : Next → Type 0
   Goes = OnlyFurther W (Trial k l u v e h)
 
-  takes-further : h .stand ≡ closed → (todo : List ℕ) → h .todo ≡ todo → Goes (hunt-take W k l u v e h todo)
-  takes-further q [] r = λ z. clash (cc)
-  takes-further q (x ∷ xs) r = by (eqb x u) (W .v .marked x)
-    where
-      new : h .taken x ≡ false
-      new = front-new s x xs r
+  -- one vertex more is taken
+  more : (x : ℕ) (xs : List ℕ) → h .todo ≡ x ∷ xs → suc (count (h .taken) 256) ≤ count (upd (h .taken) x true) 256
+  more x xs r = one-more (h .taken) x (front-new s x xs r) (omega (arith, s .met-series x (front-met s x xs r) .high))
 
-      more : suc (count (h .taken) 256) ≤ count (upd (h .taken) x true) 256
-      more = one-more (h .taken) x new (omega (arith, s .met-series x (front-met s x xs r) .high))
+  -- one edge more is passed
+  on : (x c : ℕ) → Mine (W .e) x (at c) → (c ≡ 0 → ⊥)
+      → suc (edges-that W (behind (h .taken) x (W .e .key c))) ≤ edges-that W (behind (h .taken) x (W .e .key (W .e .next c)))
+  on x c m n = edge-passed W (h .taken) x c (W .e .next c) (no-tail (W .e) x c m n) (g .esound .sorted x .follows (at c) m (λ z. n (cc)) .above)
 
-      by : (a b : Bool) → Goes (cond a (says (with-e W (retag (W .e) e marked)) 6) (cond b (goes W (Trial k l u v e (took h x xs closed))) (goes W (Trial k l u v e (took h x xs (opened x (W .e .first x)))))))
-      by true b z = clash (cc)
-      by false true z = rw q (record { same = refl; enters = tt; rises = omega (arith, more, over-more W (h .taken) x) })
-      by false false z = rw q (record {
-        same = refl;
-        enters = upd-at (h .taken) x true x refl;
-        rises = omega (arith, more, over-open W (h .taken) x new (W .e .key (W .e .first x)));
-      })
-
-  opens-further : (x c : ℕ) → h .stand ≡ opened x c → Mine (W .e) x (at c) → h .taken x ≡ true → Goes (hunt-open W k l u v e h x c)
-  opens-further x c q m t = by (W .v .marked x || eqb c 0) refl (not (is-marked (W .e .tag c)) && (not (W .v .marked (W .e .target c)) && not (h .met (W .e .target c))))
-    where
-      on : (W .v .marked x || eqb c 0) ≡ false
-          → suc (edges-that W (behind (h .taken) x (W .e .key c))) ≤ edges-that W (behind (h .taken) x (W .e .key (W .e .next c)))
-      on f =
-          let n = eqb-false c 0 (or-false (W .v .marked x) (eqb c 0) f .1) in
-          edge-passed W (h .taken) x c (W .e .next c) (no-tail (W .e) x c m n) (g .esound .sorted x .follows (at c) m (λ z. n (cc)) .above)
-
-      by : (a : Bool) → (W .v .marked x || eqb c 0) ≡ a → (b : Bool)
-          → Goes (cond a (goes W (Trial k l u v e (stands-at h closed)))
-          (cond b (goes W (Trial k l u v e (meets h (W .e .target c) (opened x (W .e .next c))))) (goes W (Trial k l u v e (stands-at h (opened x (W .e .next c)))))))
-      by true f b z = rw q (record { same = refl; enters = tt; rises = omega (arith, open-over W (h .taken) x t (W .e .key c)) })
-      by false f true z = rw q (record { same = refl; enters = t; rises = omega (arith, on f) })
-      by false f false z = rw q (record { same = refl; enters = t; rises = omega (arith, on f) })
+  further : StandOk W (h .stand) → Entered (h .taken) (h .stand) → (n : Next) → TMeans W k l u v e h n → Goes n
+  further p t n (t-dead d) = λ z. clash (cc)
+  further p t n (t-done m q r) = λ z. clash (cc)
+  further p t n (t-source q) = λ z. clash (cc)
+  further p t n (t-drops m q x xs r d f) = λ z. rw q (record { same = refl; enters = tt; rises = omega (arith, more x xs r, over-more W (h .taken) x) })
+  further p t n (t-enters m q x xs r d f) = λ z. rw q (record {
+    same = refl;
+    enters = upd-at (h .taken) x true x refl;
+    rises = omega (arith, more x xs r, over-open W (h .taken) x (front-new s x xs r) (W .e .key (W .e .first x)));
+  })
+  further p t n (t-closes m x c q d) = λ z. rw q (record { same = refl; enters = tt; rises = omega (arith, open-over W (h .taken) x (rw q at t) (W .e .key c)) })
+  further p t n (t-meets m x c q d f) = λ z. rw q (record { same = refl; enters = rw q at t; rises = omega (arith, on x c (rw q at p) d) })
+  further p t n (t-passes m x c q d f) = λ z. rw q (record { same = refl; enters = rw q at t; rises = omega (arith, on x c (rw q at p) d) })
 
   pub trial-further : StandOk W (h .stand) → Entered (h .taken) (h .stand) → Goes (move W (Trial k l u v e h))
-  trial-further p t = by (W .v .marked u || W .v .marked v) (h .stand) refl p t
-    where
-      by : (a : Bool) (o : Opened) → h .stand ≡ o → StandOk W o → Entered (h .taken) o → Goes (cond a (says (with-e W (retag (W .e) e marked)) 3) (hunts W k l u v e h o))
-      by true o q p t = λ z. clash (cc)
-      by false closed q p t = takes-further q (h .todo) refl
-      by false (opened x c) q p t = opens-further x c q p t
+  trial-further p t = further p t (move W (Trial k l u v e h)) (tmeans W k l u v e h)
 
 -- ---- the pool
 

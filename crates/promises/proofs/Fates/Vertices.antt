@@ -10,6 +10,7 @@ use Rattle.catalogue.specs.Steps.Vertices.{look-at-vertex, new-vertex, settle-a
 use Rattle.catalogue.specs.declared.steps.Decision.{Decision}
 use Rattle.catalogue.specs.declared.steps.VertexSeen.{VertexSeen}
 use Rattle.catalogue.specs.declared.steps.VertexSeen.the-variants as vertex-seen
+use Rattle.catalogue.specs.declared.workers.Ahead.{Ahead}
 use Rattle.catalogue.specs.declared.workers.Place.{Place}
 use Rattle.catalogue.specs.declared.workers.Place.the-variants.{AddV, RemV}
 use Rattle.laws.proofs.Picks.{vertex-both}
@@ -18,9 +19,9 @@ use Rattle.promises.proofs.Showing.Pools.{room-both}
 use Rattle.promises.proofs.Fates.Told.{Fate, in-row, lacks}
 use Rattle.promises.proofs.Fates.Places.{to-vertex}
 
-module _ (C : Catalogue) (x front back : ℕ) where
+module _ (C : Catalogue) (a : Ahead) where
   abbrev F : Place → Decision → Type 0
-  F pl = Fate C x front back pl
+  F pl = Fate C a pl
 
   restarts : (pl : Place) (code : ℕ) (k : ℤ) → F pl (start-again C code k)
   unfolding start-again
@@ -28,9 +29,9 @@ module _ (C : Catalogue) (x front back : ℕ) where
       vertex-both (F pl) (vertex-link C head) _ _ tt (λ first tag e. to-vertex code k head first)
 
   full-vertex : (k : ℤ) (p c next : ℕ) → look-at-vertex C k p c ≡ vertex-seen.Settles next false
-      → F (AddV k p c) (new-vertex (room most-vertices 2 (C .vertices-out)) k p c)
+      → F (AddV k p c) (new-vertex (room most-vertices 2 (C .counts .vertices)) k p c)
   full-vertex k p c next q =
-      room-both (λ r. F (AddV k p c) (new-vertex r k p c)) most-vertices 2 (C .vertices-out)
+      room-both (λ r. F (AddV k p c) (new-vertex r k p c)) most-vertices 2 (C .counts .vertices)
       (λ n. in-row refl tt) (λ e. lacks refl refl (a-vertex next q e)) tt
 
   pub adds-vertex : (k : ℤ) (p c : ℕ) → F (AddV k p c) (step-vertex C 1 k p c)

@@ -1,4 +1,4 @@
--- What a trial keeps is so when it begins, and is kept by its three kinds of step: staying, meeting a vertex, taking the front of the queue.
+-- What a trial keeps is so when it begins, and is kept by meeting a vertex and by taking the front of the queue.
 use Prim.Native.Nat.{ℕ, _+_, _≤_, _<_}
 use mathlib.Core.Bool.{true, false}
 use mathlib.Core.List.{List, [], _∷_, _++_}
@@ -6,11 +6,10 @@ use mathlib.Core.Path.{_≡_, refl, sym, ap, _∙_}
 use native.Mathlib.Omega.{arith}
 use lib.ListN.{length, take, length-set}
 use Rattle.catalogue.specs.Tests.{upd}
-use Rattle.catalogue.specs.Workers.{has, with-met, idle, begun, kept, queued, taken, front-of}
-use Rattle.catalogue.specs.declared.workers.Place.{Place}
-use Rattle.catalogue.specs.declared.workers.Worker.{Worker}
+use Rattle.catalogue.specs.Workers.{has, with-met, no-reach, meet, take-one, ahead}
+use Rattle.catalogue.specs.declared.workers.Reach.{Reach}
 use Rattle.laws.proofs.MetLaws.{none-met}
-use Rattle.row.specs.Machine.World.{Opened, closed, Hunt, hunt-from, stands-at, meets, took}
+use Rattle.row.specs.Machine.World.{Opened, closed, Hunt, hunt-from, meets, took}
 use Rattle.promises.specs.Bounds.{total}
 use Rattle.promises.proofs.Showing.Weighing.{weigh-none, weigh-one-more, total-last}
 use Rattle.promises.proofs.Showing.Shows.{Series, Open, Hunted}
@@ -18,103 +17,95 @@ use Rattle.promises.proofs.Hunts.MetSet.{none-counted, with-met-words, 
 use Rattle.promises.proofs.Hunts.Queue.{queue-put, queue-empty, queue-some, queue-first, queue-rest, taken-stay, queue-took}
 use Rattle.promises.proofs.Hunts.Searching.{nobody-searched, searched-meets, searched-takes, front-met, front-new}
 
-module _ (used : ℕ) (w : Worker) (h : Hunt) (r : Hunted used w h) where
-  pub hunted-keeps : (place : Place) (o : Opened) → Open used o → Hunted used (kept w place) (stands-at h o)
-  hunted-keeps place o stand = record {
-    met-words = r .met-words;
-    queue-length = r .queue-length;
-    ordered = r .ordered;
-    fits = r .fits;
-    met-same = r .met-same;
-    counted = r .counted;
-    queue-same = r .queue-same;
-    searched = r .searched;
-    weighed = r .weighed;
-    open-series = stand;
-  }
-
+module _ (used : ℕ) (r : Reach) (h : Hunt) (s : Hunted used r h) where
   module _ (in-pool : used ≤ 256) (y : ℕ) (in-series : Series used y) (unmet : h .met y ≡ false) where
     small : y < 256
     small = omega arith
 
-    not-in-set : has (w .met) y ≡ false
-    not-in-set = r .met-same y small ∙ unmet
+    not-in-set : has (r .met) y ≡ false
+    not-in-set = s .queued .met-same y small ∙ unmet
 
     -- as many are queued as are met, and y is not met
-    pub room-in-queue : w .back < 256
-    room-in-queue = omega (arith, r .counted, met-count-room (w .met) (r .met-words) y small not-in-set)
+    pub room-in-queue : r .back < 256
+    room-in-queue = omega (arith, s .queued .counted, met-count-room (r .met) (s .queued .met-words) y small not-in-set)
 
-    same′ : (x : ℕ) → x < 256 → has (with-met (w .met) y) x ≡ upd (h .met) y true x
+    same′ : (x : ℕ) → x < 256 → has (with-met (r .met) y) x ≡ upd (h .met) y true x
     unfolding upd
-    same′ x b = with-met-upd (w .met) (r .met-words) y small not-in-set x ∙ rw (r .met-same x b) refl
+    same′ x b = with-met-upd (r .met) (s .queued .met-words) y small not-in-set x ∙ rw (s .queued .met-same x b) refl
 
-    pub hunted-meets : (place : Place) (o : Opened) → Open used o → Hunted used (queued w place y) (meets h y o)
-    hunted-meets place o stand = record {
-      met-words = with-met-words (w .met) (r .met-words) y;
-      queue-length = length-set (w .queue) (w .back) y ∙ r .queue-length;
-      ordered = omega (arith, r .ordered);
-      fits = omega (arith, room-in-queue);
-      met-same = same′;
-      counted = met-count-up (w .met) (r .met-words) y small not-in-set ∙ ap (λ (n : ℕ). n + 1) (r .counted);
-      queue-same =
-          queue-put (w .queue) (w .front) (w .back) (r .ordered) y (rw (r .queue-length) room-in-queue)
-          ∙ ap (λ (l : List ℕ). l ++ (y ∷ [])) (r .queue-same);
-      searched = searched-meets (r .searched) y in-series unmet;
-      weighed = λ f. ap (total f) (taken-stay (w .queue) (w .front) (w .back) (r .ordered) y) ∙ r .weighed f;
+    pub hunted-meets : (o : Opened) → Open used o → Hunted used (meet r y) (meets h y o)
+    hunted-meets o stand = record {
+      queued = record {
+        met-words = with-met-words (r .met) (s .queued .met-words) y;
+        queue-length = length-set (r .queue) (r .back) y ∙ s .queued .queue-length;
+        ordered = omega (arith, s .queued .ordered);
+        fits = omega (arith, room-in-queue);
+        met-same = same′;
+        counted = met-count-up (r .met) (s .queued .met-words) y small not-in-set ∙ ap (λ (n : ℕ). n + 1) (s .queued .counted);
+        queue-same =
+            queue-put (r .queue) (r .front) (r .back) (s .queued .ordered) y (rw (s .queued .queue-length) room-in-queue)
+            ∙ ap (λ (l : List ℕ). l ++ (y ∷ [])) (s .queued .queue-same);
+        weighed = λ f. ap (total f) (taken-stay (r .queue) (r .front) (r .back) (s .queued .ordered) y) ∙ s .queued .weighed f;
+      };
+      searched = searched-meets (s .searched) y in-series unmet;
       open-series = stand;
     }
 
-  fits-length : w .back ≤ length (w .queue)
-  fits-length = rw (r .queue-length) (r .fits)
+  fits-length : r .back ≤ length (r .queue)
+  fits-length = rw (s .queued .queue-length) (s .queued .fits)
 
-  pub none-left : h .todo ≡ [] → w .front ≡ w .back
-  none-left e = queue-empty (w .queue) (w .front) (w .back) (r .ordered) fits-length (r .queue-same ∙ e)
+  pub none-left : h .todo ≡ [] → r .front ≡ r .back
+  none-left e = queue-empty (r .queue) (r .front) (r .back) (s .queued .ordered) fits-length (s .queued .queue-same ∙ e)
 
   module _ (x : ℕ) (xs : List ℕ) (front : h .todo ≡ x ∷ xs) where
-    pub some-left : w .front < w .back
-    some-left = queue-some (w .queue) (w .front) (w .back) (r .ordered) fits-length x xs (r .queue-same ∙ front)
+    pub some-left : r .front < r .back
+    some-left = queue-some (r .queue) (r .front) (r .back) (s .queued .ordered) fits-length x xs (s .queued .queue-same ∙ front)
 
-    pub front-is : front-of w ≡ x
-    front-is = queue-first (w .queue) (w .front) (w .back) (r .ordered) fits-length x xs (r .queue-same ∙ front)
+    pub front-is : ahead r .x ≡ x
+    front-is = queue-first (r .queue) (r .front) (r .back) (s .queued .ordered) fits-length x xs (s .queued .queue-same ∙ front)
 
     pub front-series : Series used x
-    front-series = let d = r .searched in d .met-series x (front-met d x xs front)
+    front-series = let d = s .searched in d .met-series x (front-met d x xs front)
 
-    pub hunted-takes : used ≤ 256 → (place : Place) (o : Opened) → Open used o → Hunted used (taken w place) (took h x xs o)
-    hunted-takes in-pool place o stand = record {
-      met-words = r .met-words;
-      queue-length = r .queue-length;
-      ordered = omega (arith, some-left);
-      fits = r .fits;
-      met-same = r .met-same;
-      counted = r .counted;
-      queue-same = queue-rest (w .queue) (w .front) (w .back) (r .ordered) fits-length x xs (r .queue-same ∙ front);
-      searched = searched-takes (r .searched) x xs front;
-      weighed = λ f.
-          ap (total f) (queue-took (w .queue) (w .front) (w .back) (r .ordered) fits-length x xs (r .queue-same ∙ front))
-          ∙ (total-last f (take (w .front) (w .queue)) x
-          ∙ (ap (λ (n : ℕ). n + f x) (r .weighed f) ∙ sym (weigh-one-more f (h .taken) x (front-new (r .searched) x xs front) 256 (omega (arith, front-series)))));
+    pub hunted-takes : used ≤ 256 → (o : Opened) → Open used o → Hunted used (take-one r) (took h x xs o)
+    hunted-takes in-pool o stand = record {
+      queued = record {
+        met-words = s .queued .met-words;
+        queue-length = s .queued .queue-length;
+        ordered = omega (arith, some-left);
+        fits = s .queued .fits;
+        met-same = s .queued .met-same;
+        counted = s .queued .counted;
+        queue-same = queue-rest (r .queue) (r .front) (r .back) (s .queued .ordered) fits-length x xs (s .queued .queue-same ∙ front);
+        weighed = λ f.
+            ap (total f) (queue-took (r .queue) (r .front) (r .back) (s .queued .ordered) fits-length x xs (s .queued .queue-same ∙ front))
+            ∙ (total-last f (take (r .front) (r .queue)) x
+            ∙ (ap (λ (n : ℕ). n + f x) (s .queued .weighed f) ∙ sym (weigh-one-more f (h .taken) x (front-new (s .searched) x xs front) 256 (omega (arith, front-series)))));
+      };
+      searched = searched-takes (s .searched) x xs front;
       open-series = stand;
     }
 
--- A trial begins as one that had met nobody and now meets v.
-pub hunted-begun : (used : ℕ) → used ≤ 256 → (place : Place) (v : ℕ) → Series used v → Hunted used (begun place v) (hunt-from v)
+-- A trial begins as one that had met no vertex and now meets v.
+pub hunted-begun : (used : ℕ) → used ≤ 256 → (v : ℕ) → Series used v → Hunted used (meet no-reach v) (hunt-from v)
 unfolding total
-hunted-begun used few place v o = hunted-meets used idle unmet nobody few v o refl place closed tt
+hunted-begun used few v o = hunted-meets used no-reach unmet nobody few v o refl closed tt
   where
     unmet : Hunt
     unmet = record { met = λ x. false; todo = []; taken = λ x. false; stand = closed }
 
-    nobody : Hunted used idle unmet
+    nobody : Hunted used no-reach unmet
     nobody = record {
-      met-words = refl;
-      queue-length = refl;
-      ordered = omega arith;
-      fits = omega arith;
-      met-same = λ x h. none-met x;
-      counted = none-counted;
-      queue-same = refl;
+      queued = record {
+        met-words = refl;
+        queue-length = refl;
+        ordered = omega arith;
+        fits = omega arith;
+        met-same = λ x h. none-met x;
+        counted = none-counted;
+        queue-same = refl;
+        weighed = λ f. sym (weigh-none f 256);
+      };
       searched = nobody-searched used;
-      weighed = λ f. sym (weigh-none f 256);
       open-series = tt;
     }

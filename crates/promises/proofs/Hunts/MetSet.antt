@@ -1,4 +1,5 @@
--- The set met: nobody is in the empty one; with one number more that number is in it now, every other one as before, and there is one more of them.
+-- The set met: the empty one has no number. With one number more that number is in it now,
+-- every other one as before, and there is one more of them.
 use Prim.Native.Nat.{ℕ, zero, suc, _+_, _/_, _≤_, _<_}
 use mathlib.Core.Bool.{Bool, true, false}
 use mathlib.Core.List.{List}
@@ -11,7 +12,7 @@ use Rattle.catalogue.specs.Workers.{has, with-met, count, met-count}
 use Rattle.laws.proofs.Picks.{pick-both}
 use Rattle.laws.proofs.Bits.{count-same}
 use Rattle.laws.proofs.MetLaws.{with-met-same, with-met-other, none-met}
-use Rattle.row.specs.Base.{upd-at, upd-other, same?}
+use Rattle.row.proofs.Base.{upd-at, upd-other, same?}
 
 -- ---- counting
 

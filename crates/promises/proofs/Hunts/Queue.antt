@@ -1,4 +1,5 @@
--- The queue from its front to its back, as a list: what is put at the back is its last, what stands at the front its first.
+-- The queue from its front to its back, as a list:
+-- what is put at the back is its last, what stands at the front its first.
 use Prim.Native.Nat.{ℕ, suc, _+_, _≤_, _<_}
 use mathlib.Core.List.{List, [], _∷_, _++_}
 use mathlib.Core.Logic.{inl, inr}
@@ -7,7 +8,7 @@ use native.Mathlib.Omega.{arith}
 use native.Mathlib.Numerals.{add-one}
 use lib.ListN.{length, getD, set, take, drop}
 use lib.Seq.{length-take-le, take-suc, take-suc-set, take-set-le, drop-append-le, slice-empty, slice-cons}
-use Rattle.row.specs.Base.{same?}
+use Rattle.row.proofs.Base.{same?}
 use Rattle.laws.proofs.Picks.{clash}
 
 module _ (queue : List ℕ) (front back : ℕ) (ordered : front ≤ back) where
@@ -16,7 +17,7 @@ module _ (queue : List ℕ) (front back : ℕ) (ordered : front ≤ back) where
       rw (add-one back, take-suc-set queue back y h)
       (drop-append-le front (take back queue) (y ∷ []) (rw (length-take-le back queue (omega arith)) ordered))
 
-  -- who stands before the front stays there
+  -- the numbers before the front are unchanged
   pub taken-stay : (y : ℕ) → take front (set queue back y) ≡ take front queue
   taken-stay y = take-set-le front queue back y ordered
 

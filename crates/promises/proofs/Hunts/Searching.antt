@@ -1,4 +1,5 @@
--- Whom a trial has met, taken, and still has to do: so it is before anybody is met, and meeting and taking keep it.
+-- What a trial has met, taken, and still has to do: so it is before any vertex is met, and meeting and taking keep
+-- it.
 use Prim.Native.Nat.{ℕ}
 use mathlib.Core.Bool.{Bool, true, false}
 use mathlib.Core.List.{List, [], _∷_, _++_}
@@ -9,7 +10,7 @@ use Rattle.laws.proofs.Picks.{clash}
 use Rattle.laws.proofs.Rules.{not-true-false}
 use Rattle.laws.proofs.Members.{All, all-each, all-join, all-append}
 use Rattle.laws.proofs.Distinct.{Distinct, distinct-append}
-use Rattle.row.specs.Base.{upd-at, upd-other, upd-true, same?}
+use Rattle.row.proofs.Base.{upd-at, upd-other, upd-true, same?}
 use Rattle.promises.proofs.Showing.Shows.{Series, Searched}
 
 pub nobody-searched : (used : ℕ) → Searched used (λ x. false) [] (λ x. false)

@@ -1,7 +1,7 @@
 -- A catalogue that shows a good world is sound: for a listing always, for a sweep where no edge is on trial.
 use Prim.Native.Nat.{ℕ, _+_, _≤_, _<_}
 use mathlib.Core.Bool.{Bool, true, false, not}
-use mathlib.Core.List.{List, _∷_}
+use mathlib.Core.List.{_∷_}
 use mathlib.Core.Logic.{inl, inr}
 use mathlib.Core.Path.{_≡_, refl, ap, _∙_}
 use native.Mathlib.Omega.{arith}
@@ -13,16 +13,17 @@ use Rattle.catalogue.specs.Catalogue.{Catalogue, first-link, at-edge}
 use Rattle.catalogue.specs.Numbers.{plain}
 use Rattle.catalogue.specs.declared.links.EdgeLink.{EdgeLink}
 use Rattle.catalogue.specs.declared.links.EdgeLink.the-variants as edge
-use Rattle.catalogue.specs.Live.{vertices, edges-of, unmarked, live-vertices, live-edges-of, gather, is-live}
+use Rattle.catalogue.specs.Live.{vertices, edges-of, unmarked, live-vertices, live-edges-of, live-edges, gather, is-live}
 use Rattle.catalogue.specs.Soundness.{Asks, listing, sweep, tag-fits, vertex-sound, target-sound, edge-sound, edges-sound, sound}
 use Rattle.laws.proofs.Members.{All, all-each, all-every, all-gather}
 use Rattle.laws.proofs.Distinct.{Distinct, distinct-keep, distinct-gather, pigeons}
+use Rattle.laws.proofs.Gathers.{live-many}
 use Rattle.laws.proofs.Keys.{risen}
-use Rattle.row.specs.Tests.{eqZ-yes}
+use Rattle.row.proofs.Tests.{eqZ-yes}
 use Rattle.row.specs.Lists.Store.{Stands}
 use Rattle.row.specs.Lists.Edges.{Tag, marked, transit, added, at, Mine, InList}
 use Rattle.row.specs.Machine.World.{World, Untried}
-use Rattle.row.specs.Graphs.Good.{WGood}
+use Rattle.row.proofs.Graphs.Good.{WGood}
 use Rattle.promises.proofs.Showing.Shows.{Shows, Series, vertex-tag-of, edge-tag-of}
 use Rattle.promises.proofs.Lists.Meets.{LiveIn, mark-v, met-v, distinct-v, meets-v, live-v, listed-in, distinct-e, live-e}
 
@@ -89,13 +90,11 @@ module _ (C : Catalogue) (W : World) (s : Shows C W) (g : WGood W) where
 
   -- ---- how many live edges
 
-  abbrev live-edges : List ℕ
-  live-edges = gather (live-edges-of C) (live-vertices C)
-
-  few : length live-edges ≤ 2047
+  few : length (live-edges C) ≤ 2047
   few =
-      pigeons 1 2047 live-edges (distinct-gather (W .e .owner) (live-edges-of C) (live-vertices C) apart (each _ own-apart) (each _ owned))
-      (all-gather _ (live-edges-of C) (live-vertices C) (each _ within-pool))
+      rw (live-many (live-edges-of C) (live-vertices C))
+      (pigeons 1 2047 (gather (live-edges-of C) (live-vertices C)) (distinct-gather (W .e .owner) (live-edges-of C) (live-vertices C) apart (each _ own-apart) (each _ owned))
+      (all-gather _ (live-edges-of C) (live-vertices C) (each _ within-pool)))
     where
       -- what holds of the list of every live vertex
       each : (P : ℕ → Type 0) → ((x : ℕ) → Stands (W .v) x → P x) → All P (live-vertices C)
@@ -121,4 +120,4 @@ module _ (C : Catalogue) (W : World) (s : Shows C W) (g : WGood W) where
         head-sound,
         all-every (vertex-sound C) (0 ∷ vertices C) on-walk,
         all-every (edges-sound asks C) (live-vertices C) (all-each (Stands (W .v)) _ (its-edges asks n) (live-vertices C) (live-v C W s g)),
-      ) (le-leb (length live-edges) 2047 few)
+      ) (le-leb (length (live-edges C)) 2047 few)

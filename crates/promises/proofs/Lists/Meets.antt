@@ -1,4 +1,5 @@
--- What a catalogue's walks meet, where it shows a good world: its live vertices, and in each one's list the edges that are its own.
+-- What a catalogue's walks meet, where it shows a good world: its live vertices,
+-- and in each one's list the edges that are its own.
 use Prim.Native.Nat.{ℕ, _≤_, _<_}
 use mathlib.Core.Bool.{Bool, true, false, not, _&&_}
 use mathlib.Core.Logic.{inl, inr}
@@ -13,15 +14,15 @@ use Rattle.laws.proofs.Picks.{clash}
 use Rattle.laws.proofs.Members.{All, all-each, all-join, all-keep, map-all, member-keep}
 use Rattle.laws.proofs.Distinct.{Distinct}
 use Rattle.laws.proofs.Walks.{walk-above, walk-same}
-use Rattle.row.specs.Lists.Links.{Run, stop, go, run-tail, run-fold}
-use Rattle.row.specs.Tests.{and-true, not-true}
+use Rattle.row.proofs.Lists.LinkLaws.{run-tail, run-fold, no-tail}
+use Rattle.row.specs.Lists.Links.{Run, stop, go}
+use Rattle.row.proofs.Tests.{and-true, not-true}
 use Rattle.row.specs.Lists.Store.{view, Stands}
 use Rattle.row.specs.Lists.Edges.{Tag, marked, transit, added, head, at, is-marked, link, InList, Mine}
 use Rattle.row.specs.Machine.World.{World, is-added}
-use Rattle.row.specs.Graphs.Good.{WGood}
-use Rattle.row.specs.Graphs.Graph.{added-is, added-plain}
+use Rattle.row.proofs.Graphs.Good.{WGood}
+use Rattle.row.proofs.Graphs.Graph.{added-is, added-plain}
 use Rattle.promises.proofs.Showing.Shows.{Shows, Series, vertex-tag-of, edge-tag-of}
-use Rattle.promises.proofs.Showing.Tail.{no-tail}
 use Rattle.promises.proofs.Lists.Walked.{walk-mine, walk-climbs, walk-distinct, walk-meets}
 
 -- an added edge in the list of u, with an unmarked target

@@ -1,87 +1,26 @@
--- While nobody puts an edge in, what is live was live before: one choice of the machine, beside a worker that is busy.
+-- While no worker puts an edge in, what is live was live before: one choice of the machine, beside a busy worker.
 use Prim.Native.Nat.{ℕ, _≤_, _<_}
-use mathlib.Core.Bool.{Bool, true, false, cond, not, _&&_, _||_}
-use mathlib.Core.List.{List, [], _∷_}
+use mathlib.Core.Bool.{Bool, true, false, cond}
 use mathlib.Core.Logic.{_⊎_, inl, inr}
-use mathlib.Core.Path.{_≡_, refl, _∙_}
-use lib.IntN.{ℤ}
-use lib.Dec.{eqb, leb}
-use lib.Signed.{ltZ}
-use Rattle.catalogue.specs.Tests.{eqZ}
-use Rattle.row.specs.Base.{upd-at}
-use Rattle.row.specs.Lists.Edges.{Prev, is-marked}
-use Rattle.row.specs.Machine.World.{World, Kind, Opened, closed, opened, Hunt, Spot, Rest, Vert, FindU, FindV, LookE, ConE, Trial, Next, is-added}
-use Rattle.row.specs.Machine.Moves.{VSeen, lower, found, missing, vlook, find-u, find-v, con-e, ESeen, e-dead, e-again, e-passes, e-marks, e-onward, e-settle, elook, look-e, hunt-take, hunts, trial, move}
-use Rattle.row.specs.Machine.Runs.{Conf, Choice, takes, steps, sweeps, takable, all-rest, act}
-use Rattle.row.specs.Graphs.Older.{LiveE}
-use Rattle.row.specs.Steps.Spots.{own}
-use Rattle.row.specs.Steps.Deeds.{Deed}
-use Rattle.row.specs.Steps.Outcomes.{did-deed}
-use Rattle.row.specs.Steps.Doing.{did}
-use Rattle.row.specs.Runs.Course.{Fine, serves-any, rest-all}
-
--- ---- edges handed out
+use mathlib.Core.Path.{_≡_, refl, ap, _∙_}
+use Rattle.row.proofs.Base.{upd-at}
+use Rattle.row.specs.Machine.World.{World, Rest, Next}
+use Rattle.row.specs.Machine.Moves.{move}
+use Rattle.row.specs.Machine.Choices.{Conf, Choice, takes, steps, sweeps, takable, all-rest, act}
+use Rattle.row.proofs.Graphs.Older.{LiveE}
+use Rattle.row.proofs.Steps.Spots.{own}
+use Rattle.row.proofs.Steps.Deeds.{Deed}
+use Rattle.row.proofs.Steps.Outcomes.{did-deed}
+use Rattle.row.proofs.Steps.Doing.{did}
+use Rattle.row.proofs.Steps.Tried.{Edits, keeps, idle, turns, inserts, move-edits}
+use Rattle.row.proofs.Events.Fine.{Fine, serves-any, rest-all}
 
 -- a step of a worker with the own edge `mine` hands out no edge, or the one that it tries then
-abbrev Grows : World → ℕ → Next → Type 0
-Grows W mine o = (o .world .e .used ≡ W .e .used) ⊎ ((mine ≡ 0) × (own (o .spot) ≡ W .e .used))
-
-module _ (W : World) where
-  either : (mine : ℕ) (b : Bool) (o p : Next) → Grows W mine o → Grows W mine p → Grows W mine (cond b o p)
-  either mine true o p f g = f
-  either mine false o p f g = g
-
-  u-grows : (q : Kind) (k l : ℤ) (c : ℕ) (z : VSeen) → Grows W 0 (find-u W q k l c z)
-  u-grows q k l c lower = inl refl
-  u-grows q k l c found = inl refl
-  u-grows q k l c missing = inl refl
-
-  v-grows : (q : Kind) (k l : ℤ) (u c : ℕ) (z : VSeen) → Grows W 0 (find-v W q k l u c z)
-  v-grows q k l u c lower = inl refl
-  v-grows q k l u c found = inl refl
-  v-grows q k l u c missing = inl refl
-
-  con-grows : (k l : ℤ) (u v c : ℕ) → Grows W 0 (con-e W k l u v c)
-  con-grows k l u v c =
-      either 0 (ltZ (W .e .key c) l) _ _ (inl refl)
-      (either 0 (W .v .marked u || W .v .marked v) _ _ (inl refl)
-      (either 0 (eqZ (W .e .key c) l && (is-added (W .e .tag c) && eqb (W .e .target c) v)) _ _ (inl refl) (inl refl)))
-
-  look-grows : (b : Bool) (k l : ℤ) (u v : ℕ) (p : Prev) (c : ℕ) (z : ESeen) → Grows W 0 (look-e W b k l u v p c z)
-  look-grows b k l u v p c e-dead = inl refl
-  look-grows b k l u v p c e-again = inl refl
-  look-grows b k l u v p c e-passes = inl refl
-  look-grows b k l u v p c e-marks = inl refl
-  look-grows b k l u v p c e-onward = inl refl
-  look-grows true k l u v p c e-settle =
-      either 0 (eqZ (W .e .key c) l) _ _ (either 0 (is-added (W .e .tag c)) _ _ (inl refl) (inl refl))
-      (either 0 (leb 2048 (W .e .used)) _ _ (inl refl) (inr (refl, refl)))
-  look-grows false k l u v p c e-settle = either 0 (eqZ (W .e .key c) l && is-added (W .e .tag c)) _ _ (inl refl) (inl refl)
-
-  module _ (k l : ℤ) (u v x : ℕ) (h : Hunt) where
-    take-grows : (ts : List ℕ) → Grows W x (hunt-take W k l u v x h ts)
-    take-grows [] = inl refl
-    take-grows (y ∷ ys) = either x (eqb y u) _ _ (inl refl) (either x (W .v .marked y) _ _ (inl refl) (inl refl))
-
-    hunt-grows : (s : Opened) → Grows W x (hunts W k l u v x h s)
-    hunt-grows closed = take-grows (h .todo)
-    hunt-grows (opened y c) =
-        either x (W .v .marked y || eqb c 0) _ _ (inl refl)
-        (either x (not (is-marked (W .e .tag c)) && (not (W .v .marked (W .e .target c)) && not (h .met (W .e .target c)))) _ _ (inl refl) (inl refl))
-
-    trial-grows : Grows W x (trial W k l u v x h)
-    trial-grows = either x (W .v .marked u || W .v .marked v) _ _ (inl refl) (hunt-grows (h .stand))
-
-  move-grows : (pl : Spot) → Grows W (own pl) (move W pl)
-  move-grows Rest = inl refl
-  move-grows (Vert pl) = inl refl
-  move-grows (FindU q k l c) = u-grows q k l c (vlook (W .v) k c)
-  move-grows (FindV q k l u c) = v-grows q k l u c (vlook (W .v) l c)
-  move-grows (LookE b k l u v p c) = look-grows b k l u v p c (elook W l u v p c)
-  move-grows (ConE k l u v c) = con-grows k l u v c
-  move-grows (Trial k l u v e h) = trial-grows k l u v e h
-
--- ---- what was before
+grows : (W : World) (mine : ℕ) (o : Next) → Edits W mine o → (o .world .e .used ≡ W .e .used) ⊎ ((mine ≡ 0) × (own (o .spot) ≡ W .e .used))
+grows W mine o (keeps w q) = inl (ap (λ X. X .e .used) w)
+grows W mine o (idle q u t) = inl u
+grows W mine o (turns c t d m w) = inl (ap (λ X. X .e .used) w)
+grows W mine o (inserts u v l p a q w) = inr (a, q)
 
 -- from the world W to the world X no edge was put in
 pub record Calm (W X : World) : Type 0 where
@@ -124,7 +63,7 @@ act-calm X f w n (sweeps W) = inl (calm-cond X (all-rest 8 (X .at)) _ (λ e. abs
 act-calm X f w n (steps v) =
     let W : World = X .world in
     let z = serves-any (X .at v) in
-    elim (move-grows W (X .at v)) [
+    elim (grows W (own (X .at v)) (move W (X .at v)) (move-edits W (X .at v))) [
       | inl q ↦ inl (calm-deed (did-deed (did W (f .good) (z .0) (X .at v) (f .ok v) (z .1))) q)
       | inr p ↦ inr (v, p .0, rw (upd-at (X .at) v (move W (X .at v) .spot) v refl, p .1) (f .good .esound .some))
     ]

@@ -2,25 +2,25 @@
 use Prim.Native.Nat.{ℕ, _≤_, _<_}
 use mathlib.Core.Bool.{true, false}
 use mathlib.Core.Path.{_≡_, refl, sym, _∙_}
-use lib.IntN.{ℤ}
 use Rattle.catalogue.specs.Tests.{member}
 use Rattle.catalogue.specs.Catalogue.{edge-link}
 use Rattle.catalogue.specs.Live.{edges-of}
-use Rattle.catalogue.specs.Runs.{Moment}
+use Rattle.catalogue.specs.Choosing.{Moment}
 use Rattle.catalogue.specs.declared.links.EdgeLink.the-variants as edge
 use Rattle.catalogue.specs.declared.workers.Place.the-variants.{TrialOpen}
 use Rattle.laws.proofs.Picks.{clash}
 use Rattle.row.specs.Lists.Edges.{Tag, marked, transit, added, is-marked, InList}
-use Rattle.row.specs.Machine.World.{World, Opened, closed, opened, Trial}
-use Rattle.row.specs.Machine.Runs.{Conf}
-use Rattle.row.specs.Steps.Spots.{Ok}
+use Rattle.row.specs.Machine.World.{World, Opened, closed, opened}
+use Rattle.row.specs.Machine.Choices.{Conf}
+use Rattle.row.proofs.Steps.Spots.{Ok}
 use Rattle.promises.specs.Moments.{place-of}
 use Rattle.promises.specs.Outside.{open-at}
-use Rattle.promises.proofs.Showing.Shows.{Series, edge-tag-of, trial-place}
-use Rattle.promises.proofs.Showing.Tail.{no-tail}
+use Rattle.promises.proofs.Showing.Shows.{Series, edge-tag-of, trial-place, at-trial}
 use Rattle.promises.proofs.Lists.Meets.{meets-e}
 use Rattle.promises.proofs.Runs.Held.{Held}
 use Rattle.promises.proofs.Outside.Spots.{trying-spot}
+use Rattle.catalogue.specs.declared.workers.Ends.{Ends}
+use Rattle.row.proofs.Lists.LinkLaws.{no-tail}
 
 -- a tag that is not MARKED
 pub plain-tag : (t : Tag) → (edge-tag-of t ≡ 1 → ⊥) → is-marked t ≡ false
@@ -28,9 +28,9 @@ plain-tag marked n = absurd (n refl)
 plain-tag transit n = refl
 plain-tag added n = refl
 
-stand-is : (k l : ℤ) (u v e x c : ℕ) (o : Opened) → TrialOpen k l u v e x c ≡ trial-place k l u v e o → o ≡ opened x c
-stand-is k l u v e x c closed q = clash (cc)
-stand-is k l u v e x c (opened y d) q = cc
+stand-is : (ends : Ends) (e x c : ℕ) (o : Opened) → TrialOpen ends e x c ≡ trial-place ends e o → o ≡ opened x c
+stand-is ends e x c closed q = clash (cc)
+stand-is ends e x c (opened y d) q = cc
 
 -- the open vertex and its current edge
 pub record Open (W : World) (x c : ℕ) : Type 0 where
@@ -41,11 +41,11 @@ module _ (workers : ℕ) (m : Moment) (X : Conf) (h : Held workers m X) where
   abbrev W : World
   W = X .world
 
-  pub open-spot : workers ≤ 8 → (w : ℕ) → w < workers → (k l : ℤ) (u v e x c : ℕ) → place-of m w ≡ TrialOpen k l u v e x c → (c ≡ 0 → ⊥) → Open W x c
-  open-spot most w low k l u v e x c q n =
-      let z = trying-spot workers m X h most w low k l u v e (open-at x c q) in
-      let o = stand-is k l u v e x c (z .hunt .stand) (sym q ∙ z .stands) in
-      let ok : Ok W (Trial k l u v e (z .hunt)) = rw (z .is) at (h .fine .ok w) in
+  pub open-spot : workers ≤ 8 → (w : ℕ) → w < workers → (ends : Ends) (e x c : ℕ) → place-of m w ≡ TrialOpen ends e x c → (c ≡ 0 → ⊥) → Open W x c
+  open-spot most w low ends e x c q n =
+      let z = trying-spot workers m X h most w low ends e (open-at x c q) in
+      let o = stand-is ends e x c (z .hunt .stand) (sym q ∙ z .stands) in
+      let ok : Ok W (at-trial ends e (z .hunt)) = rw (z .is) at (h .fine .ok w) in
       record { series = rw o at (z .keeps .open-series); listed = no-tail (W .e) x c (rw o at (ok .2 .place)) n }
 
   pub in-list : (x c : ℕ) → Open W x c → (next tag : ℕ) → edge-link (m .catalogue) c ≡ edge.At next tag → (tag ≡ 1 → ⊥)

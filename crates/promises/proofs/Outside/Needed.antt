@@ -6,7 +6,7 @@ use mathlib.Core.Path.{_≡_, refl, ap, _∙_}
 use native.Mathlib.Omega.{arith}
 use lib.IntN.{ℤ}
 use Rattle.catalogue.specs.Catalogue.{Catalogue}
-use Rattle.catalogue.specs.Runs.{Moment}
+use Rattle.catalogue.specs.Choosing.{Moment}
 use Rattle.catalogue.specs.Workers.{worker-at}
 use Rattle.catalogue.specs.Steps.Edges.{look-at-edge}
 use Rattle.catalogue.specs.declared.steps.VertexSeen.{VertexSeen}
@@ -17,29 +17,30 @@ use Rattle.catalogue.specs.declared.workers.Place.{Place}
 use Rattle.catalogue.specs.declared.workers.Place.the-variants as place
 use Rattle.catalogue.specs.declared.workers.Worker.{Worker}
 use Rattle.laws.proofs.Picks.{clash}
-use Rattle.row.specs.Tests.{eqZ-yes}
+use Rattle.row.proofs.Tests.{eqZ-yes}
 use Rattle.row.specs.Lists.Store.{Cat, Good}
 use Rattle.row.specs.Lists.Edges.{Prev}
-use Rattle.row.specs.Graphs.Good.{WGood}
+use Rattle.row.proofs.Graphs.Good.{WGood}
 use Rattle.row.specs.Machine.Vertices.{Seen, AddV, live}
-use Rattle.row.specs.Machine.World.{World, Vert, LookE, edges}
+use Rattle.row.specs.Machine.World.{World, Vert, edges}
 use Rattle.row.specs.Machine.Moves.{ESeen}
-use Rattle.row.specs.Machine.Runs.{Conf}
-use Rattle.row.specs.Steps.VertexDeeds.{Legal, Aims, Means, m-settle, means, absent}
-use Rattle.row.specs.Steps.Spots.{EAims, Pair, Ok}
-use Rattle.row.specs.Steps.EdgeLooks.{EMeans, emeans}
-use Rattle.row.specs.Steps.EdgeLooks
-use Rattle.row.specs.Steps.Doing.{live-u, live-v, absent-gap}
+use Rattle.row.specs.Machine.Choices.{Conf}
+use Rattle.row.proofs.Steps.VertexDeeds.{Legal, Aims, Means, m-settle, means, absent}
+use Rattle.row.proofs.Steps.Spots.{EAims, Pair, Ok}
+use Rattle.row.proofs.Steps.EdgeMeans
+use Rattle.row.proofs.Steps.EdgeMeans.{EMeans, emeans}
+use Rattle.row.proofs.Steps.Doing.{live-u, live-v, absent-gap}
 use Rattle.promises.specs.Graphs
 use Rattle.promises.specs.Moments.{place-of}
 use Rattle.promises.specs.Outside.{Lacks, a-vertex, an-edge, Needed, a-series, a-derivation}
-use Rattle.promises.proofs.Showing.Shows.{Stands}
+use Rattle.promises.proofs.Showing.Shows.{Stands, at-look}
 use Rattle.promises.proofs.Showing.Pools.{series-of}
 use Rattle.promises.proofs.Lists.Live.{series-is, derived-is}
 use Rattle.promises.proofs.Steps.VertexLooks.{Looked, sees-again, sees-gone, sees-lower, sees-equal, sees-above, looked}
 use Rattle.promises.proofs.Steps.EdgeLooks.{Sees, dead, again, passes, marks, onward, equal, other, sees}
 use Rattle.promises.proofs.Runs.Held.{Held}
 use Rattle.promises.proofs.Outside.Spots.{Looks, adds-vertex-spot, adds-spot}
+use Rattle.catalogue.specs.declared.steps.Landed.{Landed}
 
 -- AddV: p's key is below k, and c's above it
 no-vertex : (D : Cat) → Good D → (k : ℤ) → Legal k → (p c : ℕ) → Aims D k p → (x : VertexSeen) (y : Seen) (next : ℕ) → x ≡ vertex-seen.Settles next false
@@ -58,15 +59,15 @@ record NoEdge (W : World) (k l : ℤ) : Type 0 where
   none : edges W k l ≡ false
 
 module _ (W : World) (g : WGood W) (k l : ℤ) (u v : ℕ) (pair : Pair W k l u v) (p : Prev) (c : ℕ) (aims : EAims (W .e) u l p) where
-  no-edge : (x : EdgeSeen) (y : ESeen) (kept next tag : ℕ) → x ≡ edge-seen.Settles kept next tag false → Sees W l u p c x y → EMeans W l u v p c y → NoEdge W k l
-  no-edge x y kept next tag q dead m = clash (cc)
-  no-edge x y kept next tag q again m = clash (cc)
-  no-edge x y kept next tag q (passes lead o) m = clash (cc)
-  no-edge x y kept next tag q (marks o) m = clash (cc)
-  no-edge x y kept next tag q (onward o) m = clash (cc)
-  no-edge x y kept next tag q (equal lead o e t f n) m = clash (cc)
-  no-edge x y kept next tag q (other lead e r s) (EdgeLooks.m-settle m w n f (inl h)) = clash (cc (eqZ-yes (W .e .key c) l h))
-  no-edge x y kept next tag q (other lead e r s) (EdgeLooks.m-settle m w n f (inr h)) = record {
+  no-edge : (x : EdgeSeen) (y : ESeen) (at : Landed) → x ≡ edge-seen.Settles at → at .equal ≡ false → Sees W l u p c x y → EMeans W l u v p c y → NoEdge W k l
+  no-edge x y at q i dead m = clash (cc)
+  no-edge x y at q i again m = clash (cc)
+  no-edge x y at q i (passes lead o) m = clash (cc)
+  no-edge x y at q i (marks o) m = clash (cc)
+  no-edge x y at q i (onward o) m = clash (cc)
+  no-edge x y at q i (equal lead o e t f n) m = clash (cc)
+  no-edge x y at q i (other lead e r s) (EdgeMeans.m-settle m w n f (inl h)) = clash (cc (eqZ-yes (W .e .key c) l h))
+  no-edge x y at q i (other lead e r s) (EdgeMeans.m-settle m w n f (inr h)) = record {
     source = live-u W g k l u v pair m;
     goal = live-v W g k l u v pair m;
     none = absent-gap W g k l u v pair aims w (m .source) h;
@@ -84,22 +85,24 @@ module _ (workers : ℕ) (m : Moment) (X : Conf) (h : Held workers m X) (most : 
 
   needs : (pl : Place) → r .place ≡ pl → Lacks C pl → Needed (Graphs.live C) pl
   needs (place.AddV k p c) is (a-vertex next q full) =
-      let s = adds-vertex-spot (W .v .used) r k p c is (X .at w) (h .shown w (omega arith) .stands) in
+      let s = adds-vertex-spot (W .v .used) r (X .at w) (h .shown w (omega arith) .stands) k p c is in
       let ok : Ok W (Vert (AddV k p c)) = rw s at (h .fine .ok w) in
       let g = h .fine .good in
       a-series
       (series-is C W (h .shows) g k
       ∙ no-vertex (W .v) (g .good) k (ok .0) p c (ok .1) _ _ next q (looked C W (h .shows) (g .good) k (ok .0) p c (ok .1)) (means (W .v) k p c))
-  needs (place.AddE k l u v p c) is (an-edge kept next tag q full) = by (adds-spot (W .v .used) r k l u v p c is (X .at w) (h .shown w (omega arith) .stands))
+  needs (place.AddE ends p c) is (an-edge at q new full) = by (adds-spot (W .v .used) r (X .at w) (h .shown w (omega arith) .stands) ends p c is)
     where
-      by : Looks k l u v p c (X .at w) → Needed (Graphs.live C) (place.AddE k l u v p c)
+      by : Looks ends p c (X .at w) → Needed (Graphs.live C) (place.AddE ends p c)
       by s =
+          let k = ends .pair .k in
+          let l = ends .pair .l in
           let b = s .behind in
-          let ok : Ok W (LookE true k l u v b c) = rw (s .is) at (h .fine .ok w) in
-          let st : Stands (W .v .used) r (LookE true k l u v b c) = rw (s .is) at (h .shown w (omega arith) .stands) in
+          let ok : Ok W (at-look true ends b c) = rw (s .is) at (h .fine .ok w) in
+          let st : Stands (W .v .used) r (at-look true ends b c) = rw (s .is) at (h .shown w (omega arith) .stands) in
           let g = h .fine .good in
-          let seen = sees C W (h .shows) g l u v b c (ok .0 .legal) (ok .1) (st .1) (series-of (ok .0 .source)) (series-of (ok .0 .goal)) in
-          let z = no-edge W g k l u v (ok .0) b c (ok .1) _ _ kept next tag (ap (λ q. look-at-edge C l u v q c) (s .same) ∙ q) seen (emeans W l u v b c) in
+          let seen = sees C W (h .shows) g l (ends .u) b c (ok .0 .legal) (ok .1) k (ends .v) (st .1) (series-of (ok .0 .source)) (series-of (ok .0 .goal)) in
+          let z = no-edge W g k l (ends .u) (ends .v) (ok .0) b c (ok .1) _ _ at (ap (λ q. look-at-edge C ends q c) (s .same) ∙ q) new seen (emeans W l (ends .u) (ends .v) b c) in
           a-derivation (series-is C W (h .shows) g k ∙ z .source) (series-is C W (h .shows) g l ∙ z .goal) (derived-is C W (h .shows) g k l ∙ z .none)
 
   pub needed : Lacks C (place-of m w) → Needed (Graphs.live C) (place-of m w)

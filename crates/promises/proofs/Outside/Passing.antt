@@ -4,24 +4,21 @@ use mathlib.Core.Bool.{false}
 use mathlib.Core.Logic.{inl, inr}
 use mathlib.Core.Path.{_≡_, refl, sym}
 use native.Mathlib.Omega.{arith}
-use lib.IntN.{ℤ}
 use lib.ListN.{length}
 use lib.Seq.{getD-set-same, getD-set-other}
-use Rattle.catalogue.specs.Numbers.{head}
-use Rattle.catalogue.specs.Catalogue.{vertex-link}
-use Rattle.catalogue.specs.Calls.{After, worker-fits, start-up, take-up}
-use Rattle.catalogue.specs.Runs.{Choice, takes, steps, sweeps, Moment, choose}
-use Rattle.catalogue.specs.Workers.{bare, blank, worker-at, put, busy}
-use Rattle.catalogue.specs.Steps.Places.{code-known, key-refused, first-place}
+use Rattle.catalogue.specs.Calls.{After}
+use Rattle.catalogue.specs.Choosing.{Choice, takes, steps, sweeps, Moment, choose}
+use Rattle.catalogue.specs.Workers.{bare, blank, worker-at, put}
+use Rattle.catalogue.specs.Steps.Places.{first-place}
 use Rattle.catalogue.specs.Steps.Decide.{decide, record-after}
 use Rattle.catalogue.specs.declared.steps.Decision.{Decision}
 use Rattle.catalogue.specs.declared.workers.Table.{Table}
 use Rattle.catalogue.specs.declared.workers.Worker.{Worker}
-use Rattle.laws.proofs.Picks.{pick-both, vertex-both}
-use Rattle.row.specs.Base.{same?}
+use Rattle.row.proofs.Base.{same?}
 use Rattle.promises.proofs.Fates.Told.{trying}
 use Rattle.promises.proofs.Fates.Places.{to-first}
 use Rattle.promises.proofs.Outside.Replies.{refused, done, carried}
+use Rattle.laws.proofs.Admits.{take-up-both}
 
 pub data Passed (m : Moment) (c : Choice) (w : ℕ) (r : Worker) : Type 0 where
   same : r ≡ worker-at (m .table) w → Passed m c w r
@@ -41,22 +38,10 @@ module _ (m : Moment) (w : ℕ) (there : w < length (m .table .workers)) where
         | inr n ↦ same (getD-set-other (m .table .workers) v w r blank n)
       ]
 
-  starting : (v code : ℕ) (k l : ℤ) → P (takes v code k l) (start-up (m .catalogue) (m .table) v code k l .table)
-  unfolding start-up
-  starting v code k l =
-      pick-both (λ (a : After). P (takes v code k l) (a .table)) (code-known code) _ _
-      (λ e. pick-both (λ (a : After). P (takes v code k l) (a .table)) (key-refused code k l) _ _
-      (λ e. same refl)
-      (λ e. vertex-both (λ (a : After). P (takes v code k l) (a .table)) (vertex-link (m .catalogue) head) _ _ (same refl)
-      (λ first tag e. replaced (takes v code k l) v (bare (first-place code k l first)) (λ q. took-up (to-first code k l first)))))
-      (λ e. same refl)
-
   pub passed : (c : Choice) → Passed m c w (worker-at (choose m c .moment .table) w)
-  unfolding take-up
-  passed (takes v code k l) =
-      pick-both (λ (a : After). P (takes v code k l) (a .table)) (worker-fits (m .table .count) v) _ _
-      (λ e. pick-both (λ (a : After). P (takes v code k l) (a .table)) (busy (m .table) v) _ _ (λ b. same refl) (λ b. starting v code k l))
-      (λ e. same refl)
+  passed (takes v q) =
+      take-up-both (m .catalogue) (m .table) v q (λ (a : After). P (takes v q) (a .table)) (λ r why. same refl)
+      (λ e first a. replaced (takes v q) v (bare (first-place q first)) (λ e. took-up (to-first q first)))
   passed (steps v) =
       elim (carried (m .catalogue) (m .table) v) [
         | refused r e ↦ rw e (same refl)

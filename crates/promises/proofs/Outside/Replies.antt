@@ -1,4 +1,4 @@
--- What a step leaves: nothing new where it is refused, else what was decided; so a reply is one that was decided.
+-- After a step: nothing new where it is refused, else what was decided; so a reply is one that was decided.
 use Prim.Native.Nat.{ℕ, _≤_, _<_}
 use mathlib.Core.Bool.{true}
 use mathlib.Core.Path.{_≡_, refl, ap, sym, _∙_}
@@ -21,7 +21,7 @@ use Rattle.catalogue.specs.declared.writes.Write.the-variants.{Nothing}
 use Rattle.laws.proofs.Picks.{clash, pick-both}
 
 module _ (C : Catalogue) (t : Table) (n : ℕ) where
-  -- what a decision leaves
+  -- what there is after a decision
   abbrev pub after-of : Worker → Decision → After
   after-of w d = record { catalogue = commit C (write-of d); table = put t n (record-after w d); answer = answer-of d (record-after w d) }
 
@@ -76,12 +76,12 @@ module _ (C : Catalogue) (t : Table) (n : ℕ) where
   unfolding step
   replies f b r write e = rw (f, b, e) refl
 
--- where nothing is written the catalogue stays as it is
+-- where nothing is written the catalogue is unchanged
 pub unwritten : (C : Catalogue) (write : Write) → write ≡ Nothing → commit C write ≡ C
 unfolding commit
 unwritten C write e = rw e refl
 
--- who is in the table
+-- a worker of the table
 pub fits-table : (count workers w : ℕ) → count ≡ workers → workers ≤ 8 → w < workers → worker-fits count w ≡ true
 unfolding worker-fits count-fits
 fits-table count workers w e most low = rw (e, le-leb 1 workers (omega arith), le-leb workers 8 most, lt-ltb w workers low) refl

@@ -4,12 +4,13 @@ use mathlib.Core.Bool.{true}
 use mathlib.Core.Path.{_≡_, refl, _∙_}
 use native.Mathlib.Omega.{arith}
 use Rattle.catalogue.specs.Catalogue.{Catalogue}
-use Rattle.catalogue.specs.Runs.{Moment}
+use Rattle.catalogue.specs.Choosing.{Moment}
 use Rattle.catalogue.specs.Workers.{worker-at, busy-at}
 use Rattle.catalogue.specs.Steps.Vertices.{settle-add-vertex, settle-vertex, step-vertex}
 use Rattle.catalogue.specs.Steps.Edges.{settle-add-edge, settle-edge, step-edge}
 use Rattle.catalogue.specs.Steps.Decide.{decide}
 use Rattle.catalogue.specs.declared.steps.Decision.the-variants.{Reply}
+use Rattle.catalogue.specs.declared.workers.Ahead.{Ahead}
 use Rattle.catalogue.specs.declared.workers.Place.{Place}
 use Rattle.catalogue.specs.declared.workers.Place.the-variants.{AddV, AddE}
 use Rattle.catalogue.specs.declared.workers.Worker.{Worker}
@@ -28,22 +29,22 @@ use Rattle.promises.proofs.Fates.Any.{fate}
 use Rattle.promises.proofs.Outside.Replies.{replied-by, replies, unwritten, fits-table}
 use Rattle.promises.proofs.Outside.Needed.{needed}
 
--- what is told with 9
-nine : {C : Catalogue} {x front back : ℕ} {pl : Place} {n : ℕ} {write : Write} → n ≡ 9 → Told C x front back pl n write
+-- what is known with 9
+nine : {C : Catalogue} {a : Ahead} {pl : Place} {n : ℕ} {write : Write} → n ≡ 9 → Told C a pl n write
     → Lacks C pl × (write ≡ Nothing)
 nine q (in-row a b) = clash (cc (rw q at a))
 nine q (lacks e f z) = (z, f)
-nine q (on-trial e f k l u v p c kept next a b) = absurd (omega arith)
-nine q (loops e k l u v o next old a b c d f) = absurd (omega arith)
+nine q (on-trial e f z) = absurd (omega arith)
+nine q (loops e z) = absurd (omega arith)
 
 module _ (C : Catalogue) (w : Worker) (asked : Asked (w .place)) where
-  -- who needs a node that there is not
+  -- a worker that needs a node that there is not
   needs : (pl : Place) → w .place ≡ pl → Lacks C pl → (busy-at pl ≡ true) × (decide C w ≡ Reply 9 Nothing)
   unfolding step-vertex settle-vertex settle-add-vertex step-edge settle-edge settle-add-edge
   needs (AddV k p c) e (a-vertex next q full) =
-      (refl, decides C w (AddV k p c) e asked .1 ∙ rw (q, room-full 254 2 (C .vertices-out) (omega arith) (omega arith)) refl)
-  needs (AddE k l u v p c) e (an-edge kept next tag q full) =
-      (refl, decides C w (AddE k l u v p c) e asked .1 ∙ rw (q, room-full 2047 1 (C .edges-out) (omega arith) (omega arith)) refl)
+      (refl, decides C w (AddV k p c) e asked .1 ∙ rw (q, room-full 254 2 (C .counts .vertices) (omega arith) (omega arith)) refl)
+  needs (AddE ends p c) e (an-edge at q new full) =
+      (refl, decides C w (AddE ends p c) e asked .1 ∙ rw (q, new, room-full 2047 1 (C .counts .edges) (omega arith) (omega arith)) refl)
 
 -- where 9 is replied
 given : (m : Moment) (w : ℕ) → Replies m w 9 → Lacks (m .catalogue) (place-of m w) × (left m w ≡ m .catalogue)

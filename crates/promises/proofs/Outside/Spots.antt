@@ -2,90 +2,101 @@
 use Prim.Native.Nat.{ℕ, _≤_, _<_}
 use mathlib.Core.Bool.{true, false}
 use mathlib.Core.Logic.{inl, inr}
-use mathlib.Core.Path.{_≡_, ap, subst}
+use mathlib.Core.Path.{_≡_, refl, sym, subst}
 use native.Mathlib.Omega.{arith}
 use lib.IntN.{ℤ}
-use Rattle.catalogue.specs.Runs.{Moment}
+use Rattle.catalogue.specs.Choosing.{Moment}
 use Rattle.catalogue.specs.Workers.{worker-at}
+use Rattle.catalogue.specs.declared.workers.Ends.{Ends}
+use Rattle.catalogue.specs.declared.workers.Place.{Place}
 use Rattle.catalogue.specs.declared.workers.Place.the-variants as place
 use Rattle.catalogue.specs.declared.workers.Prev
 use Rattle.catalogue.specs.declared.workers.Worker.{Worker}
 use Rattle.laws.proofs.Picks.{clash}
-use Rattle.row.specs.Base.{lt-or}
+use Rattle.row.proofs.Base.{lt-or}
 use Rattle.row.specs.Machine.Vertices.{Idle, AddV, RemV, ConV}
 use Rattle.row.specs.Lists.Edges.{Prev}
 use Rattle.row.specs.Machine.World.{Opened, closed, opened, adds, rems, cons, Hunt, Spot, Rest, Vert, FindU, FindV, LookE, ConE, Trial}
-use Rattle.row.specs.Machine.Runs.{Conf}
-use Rattle.row.specs.Steps.Spots.{own}
+use Rattle.row.specs.Machine.Choices.{Conf}
+use Rattle.row.proofs.Steps.Spots.{own}
 use Rattle.promises.specs.Moments.{place-of}
 use Rattle.promises.specs.Outside.{Tries, shut, open-at}
-use Rattle.promises.proofs.Showing.Shows.{Stands, Hunted, prev-of, trial-place}
+use Rattle.promises.proofs.Showing.Shows.{Stands, Hunted, prev-of, trial-place, between, at-look, at-trial}
 use Rattle.promises.proofs.Runs.Held.{Held}
-use Rattle.promises.proofs.Fates.Told.{trying, tries-trying}
 
--- ---- AddV's look
+-- ---- by the place
 
-module _ (used : ℕ) (w : Worker) (k : ℤ) (p c : ℕ) (e : w .place ≡ place.AddV k p c) where
-  pub adds-vertex-spot : (s : Spot) → Stands used w s → s ≡ Vert (AddV k p c)
-  adds-vertex-spot Rest q = clash (cc)
-  adds-vertex-spot (Vert Idle) q = absurd q
-  adds-vertex-spot (Vert (AddV j r d)) q = cc
-  adds-vertex-spot (Vert (RemV j r d)) q = clash (cc)
-  adds-vertex-spot (Vert (ConV j d)) q = clash (cc)
-  adds-vertex-spot (FindU adds i j d) q = clash (cc)
-  adds-vertex-spot (FindU rems i j d) q = clash (cc)
-  adds-vertex-spot (FindU cons i j d) q = clash (cc)
-  adds-vertex-spot (FindV adds i j x d) q = clash (cc)
-  adds-vertex-spot (FindV rems i j x d) q = clash (cc)
-  adds-vertex-spot (FindV cons i j x d) q = clash (cc)
-  adds-vertex-spot (LookE true i j x y r d) q = clash (cc (q .0))
-  adds-vertex-spot (LookE false i j x y r d) q = clash (cc (q .0))
-  adds-vertex-spot (ConE i j x y d) q = clash (cc)
-  adds-vertex-spot (Trial i j x y f h) q = by (h .stand) (q .0)
-    where
-      by : (o : Opened) → w .place ≡ trial-place i j x y f o → Trial i j x y f h ≡ Vert (AddV k p c)
-      by closed z = clash (cc)
-      by (opened a b) z = clash (cc)
-
--- ---- AddE's look
-
-pub record Looks (k l : ℤ) (u v : ℕ) (p : Prev.Prev) (c : ℕ) (s : Spot) : Type 0 where
+-- AddE's look
+pub record Looks (ends : Ends) (p : Prev.Prev) (c : ℕ) (s : Spot) : Type 0 where
   pub behind : Prev
-  pub is : s ≡ LookE true k l u v behind c
+  pub is : s ≡ at-look true ends behind c
   pub same : prev-of behind ≡ p
 
-module _ (used : ℕ) (w : Worker) (k l : ℤ) (u v : ℕ) (p : Prev.Prev) (c : ℕ) (e : w .place ≡ place.AddE k l u v p c) where
-  pub adds-spot : (s : Spot) → Stands used w s → Looks k l u v p c s
-  adds-spot Rest q = clash (cc)
-  adds-spot (Vert Idle) q = absurd q
-  adds-spot (Vert (AddV j r d)) q = clash (cc)
-  adds-spot (Vert (RemV j r d)) q = clash (cc)
-  adds-spot (Vert (ConV j d)) q = clash (cc)
-  adds-spot (FindU adds i j d) q = clash (cc)
-  adds-spot (FindU rems i j d) q = clash (cc)
-  adds-spot (FindU cons i j d) q = clash (cc)
-  adds-spot (FindV adds i j x d) q = clash (cc)
-  adds-spot (FindV rems i j x d) q = clash (cc)
-  adds-spot (FindV cons i j x d) q = clash (cc)
-  adds-spot (LookE true i j x y r d) q = let z = q .0 in record { behind = r; is = cc; same = cc }
-  adds-spot (LookE false i j x y r d) q = clash (cc (q .0))
-  adds-spot (ConE i j x y d) q = clash (cc)
-  adds-spot (Trial i j x y f h) q = by (h .stand) (q .0)
+-- a worker that tries
+pub record Trying (used : ℕ) (w : Worker) (ends : Ends) (e : ℕ) (s : Spot) : Type 0 where
+  pub hunt : Hunt
+  pub is : s ≡ at-trial ends e hunt
+  pub stands : w .place ≡ trial-place ends e (hunt .stand)
+  pub keeps : Hunted used (w .reach) hunt
+
+module _ (used : ℕ) (w : Worker) where
+  -- what is known of the spot where the place is AddV's or AddE's look, or a trial's
+  abbrev Spotted : Spot → Place → Type 0
+  Spotted s place.Idle = Unit {0}
+  Spotted s (place.AddV k p c) = s ≡ Vert (AddV k p c)
+  Spotted s (place.RemV k p c) = Unit {0}
+  Spotted s (place.ConV k c) = Unit {0}
+  Spotted s (place.AddEFindU pair c) = Unit {0}
+  Spotted s (place.RemEFindU pair c) = Unit {0}
+  Spotted s (place.ConEFindU pair c) = Unit {0}
+  Spotted s (place.AddEFindV pair u c) = Unit {0}
+  Spotted s (place.RemEFindV pair u c) = Unit {0}
+  Spotted s (place.ConEFindV pair u c) = Unit {0}
+  Spotted s (place.AddE ends p c) = Looks ends p c s
+  Spotted s (place.RemE ends p c) = Unit {0}
+  Spotted s (place.ConE ends c) = Unit {0}
+  Spotted s (place.Trial ends e) = Trying used w ends e s
+  Spotted s (place.TrialOpen ends e x c) = Trying used w ends e s
+
+  spotted : (s : Spot) → Stands used w s → Spotted s (w .place)
+  spotted Rest q = rw q tt
+  spotted (Vert Idle) q = absurd q
+  spotted (Vert (AddV k p c)) q = rw q refl
+  spotted (Vert (RemV k p c)) q = rw q tt
+  spotted (Vert (ConV k c)) q = rw q tt
+  spotted (FindU adds k l c) q = rw q tt
+  spotted (FindU rems k l c) q = rw q tt
+  spotted (FindU cons k l c) q = rw q tt
+  spotted (FindV adds k l u c) q = rw q tt
+  spotted (FindV rems k l u c) q = rw q tt
+  spotted (FindV cons k l u c) q = rw q tt
+  spotted (LookE true k l u v p c) q = rw (q .0) (record { behind = p; is = refl; same = refl })
+  spotted (LookE false k l u v p c) q = rw (q .0) tt
+  spotted (ConE k l u v c) q = rw q tt
+  spotted (Trial k l u v e h) q = subst (Spotted (Trial k l u v e h)) (sym (q .0)) (by (h .stand) (record { hunt = h; is = refl; stands = q .0; keeps = q .1 }))
     where
-      by : (o : Opened) → w .place ≡ trial-place i j x y f o → Looks k l u v p c (Trial i j x y f h)
-      by closed z = clash (cc)
-      by (opened a b) z = clash (cc)
+      by : (o : Opened) → Trying used w (between k l u v) e (Trial k l u v e h) → Spotted (Trial k l u v e h) (trial-place (between k l u v) e o)
+      by closed z = z
+      by (opened x c) z = z
+
+  module _ (s : Spot) (q : Stands used w s) where
+    pub adds-vertex-spot : (k : ℤ) (p c : ℕ) → w .place ≡ place.AddV k p c → s ≡ Vert (AddV k p c)
+    adds-vertex-spot k p c e = subst (Spotted s) e (spotted s q)
+
+    pub adds-spot : (ends : Ends) (p : Prev.Prev) (c : ℕ) → w .place ≡ place.AddE ends p c → Looks ends p c s
+    adds-spot ends p c e = subst (Spotted s) e (spotted s q)
+
+    pub trial-spot : (ends : Ends) (e : ℕ) → Tries ends e (w .place) → Trying used w ends e s
+    trial-spot ends e (shut t) = subst (Spotted s) t (spotted s q)
+    trial-spot ends e (open-at x c t) = subst (Spotted s) t (spotted s q)
 
 -- ---- trials
 
 -- a spot with an own edge
 pub record TrialAt (s : Spot) (e : ℕ) : Type 0 where
-  pub k : ℤ
-  pub l : ℤ
-  pub u : ℕ
-  pub v : ℕ
+  pub ends : Ends
   pub hunt : Hunt
-  pub is : s ≡ Trial k l u v e hunt
+  pub is : s ≡ at-trial ends e hunt
 
 pub own-trial : (s : Spot) (e : ℕ) → 1 ≤ e → own s ≡ e → TrialAt s e
 own-trial Rest e h q = absurd (omega arith)
@@ -94,52 +105,15 @@ own-trial (FindU a k l c) e h q = absurd (omega arith)
 own-trial (FindV a k l u c) e h q = absurd (omega arith)
 own-trial (LookE b k l u v p c) e h q = absurd (omega arith)
 own-trial (ConE k l u v c) e h q = absurd (omega arith)
-own-trial (Trial k l u v o z) e h q = record { k = k; l = l; u = u; v = v; hunt = z; is = cc }
+own-trial (Trial k l u v o z) e h q = record { ends = between k l u v; hunt = z; is = cc }
 
 -- its worker tries that pair
-pub spot-tries : (used : ℕ) (w : Worker) (k l : ℤ) (u v e : ℕ) (h : Hunt) → Stands used w (Trial k l u v e h) → Tries k l u v e (w .place)
-spot-tries used w k l u v e h q = by (h .stand) (q .0)
+pub spot-tries : (used : ℕ) (w : Worker) (ends : Ends) (e : ℕ) (h : Hunt) → Stands used w (at-trial ends e h) → Tries ends e (w .place)
+spot-tries used w ends e h q = by (h .stand) (q .0)
   where
-    by : (o : Opened) → w .place ≡ trial-place k l u v e o → Tries k l u v e (w .place)
+    by : (o : Opened) → w .place ≡ trial-place ends e o → Tries ends e (w .place)
     by closed z = shut z
     by (opened x c) z = open-at x c z
-
--- the spot of a worker that tries
-pub record Trying (used : ℕ) (w : Worker) (k l : ℤ) (u v e : ℕ) (s : Spot) : Type 0 where
-  pub hunt : Hunt
-  pub is : s ≡ Trial k l u v e hunt
-  pub stands : w .place ≡ trial-place k l u v e (hunt .stand)
-  pub keeps : Hunted used w hunt
-
-module _ (used : ℕ) (w : Worker) (k l : ℤ) (u v e : ℕ) (t : Tries k l u v e (w .place)) where
-  busy : trying (w .place) ≡ true
-  busy = tries-trying t
-
-  same-trial : (i j : ℤ) (x y f : ℕ) (o : Opened) → w .place ≡ trial-place i j x y f o → (h : Hunt) → Trial i j x y f h ≡ Trial k l u v e h
-  same-trial i j x y f closed z h = elim t [ shut q ↦ cc | open-at a b q ↦ clash (cc) ]
-  same-trial i j x y f (opened a b) z h = elim t [ shut q ↦ clash (cc) | open-at c d q ↦ cc ]
-
-  same-place : (i j : ℤ) (x y f : ℕ) (o : Opened) → w .place ≡ trial-place i j x y f o → w .place ≡ trial-place k l u v e o
-  same-place i j x y f closed z = elim t [ shut q ↦ q | open-at a b q ↦ clash (cc) ]
-  same-place i j x y f (opened a b) z = elim t [ shut q ↦ clash (cc) | open-at c d q ↦ cc ]
-
-  pub trial-spot : (s : Spot) → Stands used w s → Trying used w k l u v e s
-  trial-spot Rest q = clash (cc (busy, ap trying q))
-  trial-spot (Vert Idle) q = absurd q
-  trial-spot (Vert (AddV j r d)) q = clash (cc (busy, ap trying q))
-  trial-spot (Vert (RemV j r d)) q = clash (cc (busy, ap trying q))
-  trial-spot (Vert (ConV j d)) q = clash (cc (busy, ap trying q))
-  trial-spot (FindU adds i j d) q = clash (cc (busy, ap trying q))
-  trial-spot (FindU rems i j d) q = clash (cc (busy, ap trying q))
-  trial-spot (FindU cons i j d) q = clash (cc (busy, ap trying q))
-  trial-spot (FindV adds i j x d) q = clash (cc (busy, ap trying q))
-  trial-spot (FindV rems i j x d) q = clash (cc (busy, ap trying q))
-  trial-spot (FindV cons i j x d) q = clash (cc (busy, ap trying q))
-  trial-spot (LookE true i j x y r d) q = clash (cc (busy, ap trying (q .0)))
-  trial-spot (LookE false i j x y r d) q = clash (cc (busy, ap trying (q .0)))
-  trial-spot (ConE i j x y d) q = clash (cc (busy, ap trying q))
-  trial-spot (Trial i j x y f h) q =
-      record { hunt = h; is = same-trial i j x y f (h .stand) (q .0) h; stands = same-place i j x y f (h .stand) (q .0); keeps = q .1 }
 
 -- ---- beside a moment that is held
 
@@ -147,7 +121,7 @@ module _ (used : ℕ) (w : Worker) (k l : ℤ) (u v e : ℕ) (t : Tries k l u v 
 pub record Trier (workers : ℕ) (m : Moment) (x e : ℕ) (s : Spot) : Type 0 where
   pub inside : x < workers
   pub trial : TrialAt s e
-  pub tries : Tries (trial .k) (trial .l) (trial .u) (trial .v) e (place-of m x)
+  pub tries : Tries (trial .ends) e (place-of m x)
 
 module _ (workers : ℕ) (m : Moment) (X : Conf) (h : Held workers m X) (most : workers ≤ 8) where
   pub trier : (x e : ℕ) → 1 ≤ e → own (X .at x) ≡ e → Trier workers m x e (X .at x)
@@ -159,10 +133,9 @@ module _ (workers : ℕ) (m : Moment) (X : Conf) (h : Held workers m X) (most : 
         inside = inside;
         trial = i;
         tries =
-            spot-tries (X .world .v .used) r (i .k) (i .l) (i .u) (i .v) e (i .hunt)
+            spot-tries (X .world .v .used) r (i .ends) e (i .hunt)
             (subst (Stands (X .world .v .used) r) (i .is) (h .shown x (omega arith) .stands));
       }
 
-  pub trying-spot : (w : ℕ) → w < workers → (k l : ℤ) (u v e : ℕ) → Tries k l u v e (place-of m w)
-      → Trying (X .world .v .used) (worker-at (m .table) w) k l u v e (X .at w)
-  trying-spot w low k l u v e t = trial-spot (X .world .v .used) (worker-at (m .table) w) k l u v e t (X .at w) (h .shown w (omega arith) .stands)
+  pub trying-spot : (w : ℕ) → w < workers → (ends : Ends) (e : ℕ) → Tries ends e (place-of m w) → Trying (X .world .v .used) (worker-at (m .table) w) ends e (X .at w)
+  trying-spot w low ends e t = trial-spot (X .world .v .used) (worker-at (m .table) w) (X .at w) (h .shown w (omega arith) .stands) ends e t

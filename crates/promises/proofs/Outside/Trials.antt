@@ -4,11 +4,11 @@ use mathlib.Core.List.{List}
 use mathlib.Core.Logic.{inl, inr}
 use mathlib.Core.Path.{_≡_, refl, ap}
 use native.Mathlib.Omega.{arith}
-use lib.IntN.{ℤ}
-use Rattle.catalogue.specs.Runs.{Choice}
+use Rattle.catalogue.specs.Choosing.{Choice}
+use Rattle.catalogue.specs.declared.workers.Ends.{Ends}
 use Rattle.catalogue.specs.declared.workers.Place.the-variants.{Idle}
-use Rattle.row.specs.Base.{same?}
-use Rattle.row.specs.Machine.Runs.{conf}
+use Rattle.row.proofs.Base.{same?}
+use Rattle.row.specs.Machine.Choices.{conf}
 use Rattle.laws.proofs.Picks.{clash}
 use Rattle.promises.specs.Moments.{Given, moment, place-of}
 use Rattle.promises.specs.Outside.{Tries, Lasts}
@@ -16,12 +16,12 @@ use Rattle.promises.proofs.Fates.Told.{trying, tries-trying}
 use Rattle.promises.proofs.Outside.Run.{run}
 use Rattle.promises.proofs.Outside.Ways.{begins, rests, keeps, meets, takes, way-next}
 
-module _ (workers : ℕ) (choices : List Choice) (g : Given workers choices) (w : ℕ) (low : w < workers) (k l : ℤ) (u v e : ℕ) where
+module _ (workers : ℕ) (choices : List Choice) (g : Given workers choices) (w : ℕ) (low : w < workers) (ends : Ends) (e : ℕ) where
   abbrev T : ℕ → Type 0
-  T n = Tries k l u v e (place-of (moment workers choices n) w)
+  T n = Tries ends e (place-of (moment workers choices n) w)
 
   abbrev L : ℕ → ℕ → Type 0
-  L first n = Lasts workers choices w k l u v e first n
+  L first n = Lasts workers choices w ends e first n
 
   longer : (n : ℕ) → T (suc n) → (first : ℕ) × L first n → (first : ℕ) × L first (suc n)
   longer n t z =
@@ -45,7 +45,7 @@ module _ (workers : ℕ) (choices : List Choice) (g : Given workers choices) (w 
       let z : place-of (moment workers choices 0) w ≡ Idle = run workers choices g 0 .1 .shown w (omega arith) .stands in
       clash (cc (tries-trying t, ap trying z))
   lasting (suc n) t =
-      elim (way-next workers choices g w low n k l u v e t) [
+      elim (way-next workers choices g w low n ends e t) [
         | begins p c q s ↦ (
           suc n,
           record {

@@ -1,11 +1,12 @@
--- A call alone has at most one outcome, and has one wherever it can be told whether a walk leads from one series to another; and in a live graph it can.
+-- A call alone has at most one outcome. It has one wherever it is known whether a walk leads
+-- from one series to another; and in a live graph it is.
 use Prim.Native.Nat.{ℕ}
 use mathlib.Core.Bool.{Bool, true, false}
 use mathlib.Core.Logic.{inl, inr}
 use mathlib.Core.Path.{_≡_, refl, sym, ap, _∙_}
 use lib.IntN.{ℤ}
 use Rattle.catalogue.specs.Tests.{pick}
-use Rattle.catalogue.specs.Listing.{edge-lines}
+use Rattle.catalogue.specs.Live.{live-pairs}
 use Rattle.laws.proofs.Picks.{pick-both, clash}
 use Rattle.promises.specs.Graphs.{Graph, live, Walk}
 use Rattle.promises.specs.Alone.{Ask, AddV, RemV, ConV, AddE, RemE, ConE, with-series, without-series, with-pair, both, Alone, addV-new, addV-there, remV-there, remV-none, conV-there, conV-none, addE-no-end, addE-there, addE-loop, addE-new, remE-no-end, remE-there, remE-none, conE-there, conE-none}
@@ -27,7 +28,7 @@ module _ (g : Graph) where
   Knows b (RemE k l) = Unit {0}
   Knows b (ConE k l) = Unit {0}
 
-  -- what a call replies and leaves
+  -- what a call replies, and the graph after it
   abbrev tried : ℤ → ℤ → Bool → ℕ × Graph
   tried k l b = pick b (6, g) (1, with-pair g k l true)
 
@@ -84,7 +85,7 @@ module _ (g : Graph) where
   only b q d n h (conE-there e) = rw e
   only b q d n h (conE-none e) = rw e
 
-  -- who has an outcome knows
+  -- with an outcome it is known
   knows : (q : Ask) (n : ℕ) (h : Graph) → Alone g q n h → (b : Bool) × Knows b q
   knows q n h (addV-new e) = (true, tt)
   knows q n h (addV-there e) = (true, tt)
@@ -102,7 +103,7 @@ module _ (g : Graph) where
   knows q n h (conE-there e) = (true, tt)
   knows q n h (conE-none e) = (true, tt)
 
-  -- so does who can tell whether a walk leads from one series to another
+  -- so it is where walks between any two series are decided
   decides : ((to from : ℤ) → Known (Walk g to from)) → (q : Ask) → (b : Bool) × Knows b q
   decides known (AddV k) = (true, tt)
   decides known (RemV k) = (true, tt)
@@ -127,4 +128,4 @@ one-at-most g q m n h i a c =
     (x .0 ∙ sym (y .0), x .1 ∙ sym (y .1))
 
 pub one-outcome : OneOutcome
-one-outcome C q = outcome (live C) q (decides (live C) (walk-known (live C .series) (edge-lines C)) q)
+one-outcome C q = outcome (live C) q (decides (live C) (walk-known (live C .series) (live-pairs C)) q)

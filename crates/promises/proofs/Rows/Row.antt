@@ -1,4 +1,5 @@
--- The history of a run is that of the machine that makes it, read as the run's; so each event of the run is one of those that make a row.
+-- The history of a run is that of the machine that makes it, read as the run's;
+-- so each event of the run is one of those that make a row.
 use Prim.Native.Nat.{ℕ, zero, suc}
 use mathlib.Core.Bool.{Bool, true, false, not, _&&_, _||_}
 use mathlib.Core.List.{List}
@@ -7,19 +8,19 @@ use mathlib.Core.Path.{_≡_, refl, sym, ap, ap₂, _∙_, fun-ext}
 use lib.Dec.{eqb}
 use lib.ListN.{length}
 use Rattle.catalogue.specs.Tests.{pick}
-use Rattle.catalogue.specs.Runs.{Choice}
+use Rattle.catalogue.specs.Choosing.{Choice}
 use Rattle.laws.proofs.Picks.{clash}
 use Rattle.row.specs.Rows.Row.{Call, Event, quiet, acts, looks, by}
-use Rattle.row.specs.Rows.Assemble.{assemble}
-use Rattle.row.specs.Tests.{and-true}
+use Rattle.row.proofs.Assemble.{assemble}
+use Rattle.row.proofs.Tests.{and-true}
 use Rattle.row.specs.Machine.World.{World, graph, alone}
-use Rattle.row.specs.Machine.Runs.{takes, steps, sweeps, conf, Began, began, opens, counts, Honest}
-use Rattle.row.specs.Machine.Runs
+use Rattle.row.specs.Machine.Choices.{takes, steps, sweeps, conf, Began, began, opens, counts, Honest}
+use Rattle.row.specs.Machine.Choices
 use Rattle.row.specs.Machine.World
-use Rattle.row.specs.Graphs.Good.{WGood}
-use Rattle.row.specs.Steps.VertexDoing.{same-between}
-use Rattle.row.specs.Runs.Happen.{happens}
-use Rattle.row.specs.Graphs.Loops.{loopless}
+use Rattle.row.proofs.Graphs.Good.{WGood}
+use Rattle.row.proofs.Steps.VertexDoing.{same-between}
+use Rattle.row.proofs.Events.Happen.{happens}
+use Rattle.row.proofs.Graphs.Loops.{loopless}
 use Rattle.promises.specs.Moments.{moment, chosen}
 use Rattle.promises.specs.Graphs.{live}
 use Rattle.promises.specs.Alone.{Ask, Alone}
@@ -32,11 +33,11 @@ use Rattle.promises.proofs.Rows.Sequential.{Ended, graph-path, alone-is
 
 -- ---- small
 
-since-is : (o : Option World.Ask) (n : ℕ) (b : Began) → begun-of (Runs.since o n b) ≡ since (taken-of o) n (begun-of b)
+since-is : (o : Option World.Ask) (n : ℕ) (b : Began) → begun-of (Choices.since o n b) ≡ since (taken-of o) n (begun-of b)
 since-is none n b = refl
 since-is (some q) n b = refl
 
-said-is : (s : ℕ → Runs.Choice) (n : ℕ) (c : Runs.Choice) → Runs.said s n c ≡ said-by (λ w. began s w n) (conf s n) c
+said-is : (s : ℕ → Choices.Choice) (n : ℕ) (c : Choices.Choice) → Choices.said s n c ≡ said-by (λ w. began s w n) (conf s n) c
 said-is s n (takes w q) = refl
 said-is s n (steps w) = refl
 said-is s n (sweeps W) = refl
@@ -59,7 +60,7 @@ silent (some d) f c e = let z : call-of d ≡ c = cc in rw (← z) (counts-is d 
 -- ---- the history
 
 module _ (workers : ℕ) (choices : List Choice) (r : Run workers choices) where
-  abbrev s : ℕ → Runs.Choice
+  abbrev s : ℕ → Choices.Choice
   s = r .schedule
 
   begun-is : (w n : ℕ) → begun-of (began s w n) ≡ begun workers choices w n
@@ -67,7 +68,7 @@ module _ (workers : ℕ) (choices : List Choice) (r : Run workers choices) where
   begun-is w zero = refl
   begun-is w (suc n) = since-is (opens (conf s n) (s n) w) (suc n) (began s w n) ∙ ap₂ (λ o b. since o (suc n) b) (r .same n .taken w) (begun-is w n)
 
-  answered-is : (n : ℕ) → answered-of (Runs.answered s n) ≡ answered workers choices n
+  answered-is : (n : ℕ) → answered-of (Choices.answered s n) ≡ answered workers choices n
   answered-is zero = refl
   answered-is (suc n) =
       ap answered-of (said-is s n (s n)) ∙ r .same n .answered (λ w. began s w n)
@@ -101,8 +102,8 @@ module _ (workers : ℕ) (choices : List Choice) (r : Run workers choices) where
   still : (j : ℕ) → graph (world (suc j)) ≡ graph (world j) → live (moment workers choices (suc j) .catalogue) ≡ live (moment workers choices j .catalogue)
   still j e = sym (live-is (suc j)) ∙ ap graph-of e ∙ live-is j
 
-  event-is : (j : ℕ) → Event (by alone) counts (Runs.history s) j → Event Alone in-row (history workers choices) j
-  event-is j (quiet q e) = quiet (λ c a. silent (Runs.answered s (suc j)) q c (answered-is (suc j) ∙ a)) (still j e)
+  event-is : (j : ℕ) → Event (by alone) counts (Choices.history s) j → Event Alone in-row (history workers choices) j
+  event-is j (quiet q e) = quiet (λ c a. silent (Choices.answered s (suc j)) q c (answered-is (suc j) ∙ a)) (still j e)
   event-is j (acts c a b f d) = acts (call-of c) (sym (answered-is (suc j)) ∙ ap answered-of a) (counts-is c ∙ b) f (does-is j (suc j) c d)
   event-is j (looks c a b e t f u d) =
       looks (call-of c) (sym (answered-is (suc j)) ∙ ap answered-of a) (counts-is c ∙ b) (still j e) t f u (does-is t t c d)

@@ -5,12 +5,12 @@ use mathlib.Core.Path.{_≡_, refl, sym, ap, ap₂, _∙_, subst, fun-ext}
 use lib.IntN.{ℤ}
 use Rattle.catalogue.specs.Tests.{pick, eqZ}
 use Rattle.laws.proofs.Rules.{eqZ-refl}
-use Rattle.row.specs.Tests.{cond-or}
+use Rattle.row.proofs.Tests.{cond-or}
 use Rattle.row.specs.Machine.Vertices.{addV, remV, conV, put}
 use Rattle.row.specs.Machine.World.{vert, addE, remE, conE, put-edge, between, alone}
 use Rattle.row.specs.Machine.World
-use Rattle.row.specs.Graphs.Loops.{end, via, Loopless}
-use Rattle.row.specs.Graphs.Loops
+use Rattle.row.proofs.Graphs.Loops.{end, via, Loopless}
+use Rattle.row.proofs.Graphs.Loops
 use Rattle.promises.specs.Graphs.{Graph, Walk, here, over}
 use Rattle.promises.specs.Alone.{Ask, with-series, without-series, with-pair, both, Alone, addV-new, addV-there, remV-there, remV-none, conV-there, conV-none, addE-no-end, addE-there, addE-new, remE-no-end, remE-there, remE-none, conE-there, conE-none}
 use Rattle.promises.proofs.Showing.Tests.{pick-cond, pick-and}
@@ -46,7 +46,7 @@ module _ (b c : Bool) where
       by false true = refl
       by false false = refl
 
--- ---- the graphs that are left
+-- ---- the graphs after each call
 
 -- derivations lie between series
 abbrev pub Ended : World.Graph → Type 0

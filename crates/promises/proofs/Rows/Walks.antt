@@ -1,4 +1,5 @@
--- Whether a walk leads from one series to another can be told, line by line: a walk that may use one line more uses it, or needs it not.
+-- Whether a walk leads from one series to another is decided pair by pair.
+-- A walk that may use one pair more uses it, or does without it.
 use mathlib.Core.Bool.{Bool, true, false}
 use mathlib.Core.List.{List, [], _∷_}
 use mathlib.Core.Logic.{_⊎_, inl, inr}
@@ -7,8 +8,8 @@ use lib.IntN.{ℤ}
 use Rattle.catalogue.specs.Tests.{pick, eqZ}
 use Rattle.laws.proofs.Picks.{pick-both, clash}
 use Rattle.laws.proofs.Rules.{eqZ-refl, eqZ-eq}
-use Rattle.row.specs.Tests.{same-key?}
-use Rattle.promises.specs.Graphs.{Graph, same-line, printed, Walk, here, over}
+use Rattle.row.proofs.Tests.{same-key?}
+use Rattle.promises.specs.Graphs.{Graph, Walk, here, over, among, same-pair}
 
 abbrev pub Known : Type 0 → Type 0
 Known A = A ⊎ (A → ⊥)
@@ -54,64 +55,43 @@ module _ (g h : Graph) (a b : ℤ) (up : Kept g h) (new : h .derived a b ≡ tru
             ]
       ]
 
--- ---- the lines of a listing
-
-data Line (m : List ℤ) : Type 0 where
-  pair : (a b : ℤ) → m ≡ a ∷ b ∷ [] → Line m
-  other : ((k l : ℤ) → same-line (k ∷ l ∷ []) m ≡ false) → Line m
-
-line : (m : List ℤ) → Line m
-unfolding same-line
-line [] = other (λ k l. refl)
-line (a ∷ []) = other (λ k l. pick-both (λ t. t ≡ false) (eqZ k a) _ _ (λ e. refl) (λ e. refl))
-line (a ∷ b ∷ []) = pair a b refl
-line (a ∷ b ∷ c ∷ m) =
-    other (λ k l. pick-both (λ t. t ≡ false) (eqZ k a) _ _ (λ e. pick-both (λ t. t ≡ false) (eqZ l b) _ _ (λ f. refl) (λ f. refl)) (λ e. refl))
+-- ---- the pairs of a live graph
 
 module _ (series : ℤ → Bool) where
-  abbrev of-lines : List (List ℤ) → Graph
-  of-lines ls = record { series = series; derived = λ k l. printed (k ∷ l ∷ []) ls }
+  abbrev of-pairs : List (ℤ × ℤ) → Graph
+  of-pairs l = record { series = series; derived = λ i j. among same-pair (i, j) l }
 
-  kept-lines : (m : List ℤ) (ls : List (List ℤ)) → Kept (of-lines ls) (of-lines (m ∷ ls))
-  unfolding printed
-  kept-lines m ls i j e = pick-both (λ t. t ≡ true) (same-line (i ∷ j ∷ []) m) _ _ (λ f. refl) (λ f. e)
+  module _ (p : ℤ × ℤ) (l : List (ℤ × ℤ)) where
+    kept-pairs : Kept (of-pairs l) (of-pairs (p ∷ l))
+    unfolding among
+    kept-pairs i j e = pick-both (λ t. t ≡ true) (same-pair (i, j) p) _ _ (λ f. refl) (λ f. e)
 
-  no-more : (m : List ℤ) (ls : List (List ℤ)) → ((k l : ℤ) → same-line (k ∷ l ∷ []) m ≡ false) → Kept (of-lines (m ∷ ls)) (of-lines ls)
-  unfolding printed
-  no-more m ls n i j e = rw (n i j) at e
+    one-more : of-pairs (p ∷ l) .derived (p .0) (p .1) ≡ true
+    unfolding among
+    one-more = rw (eqZ-refl (p .0), eqZ-refl (p .1)) refl
 
-  one-more : (a b : ℤ) (ls : List (List ℤ)) → of-lines ((a ∷ b ∷ []) ∷ ls) .derived a b ≡ true
-  unfolding printed same-line
-  one-more a b ls = rw (eqZ-refl a, eqZ-refl b) refl
+    that-one : (i j : ℤ) → of-pairs (p ∷ l) .derived i j ≡ true → (of-pairs l .derived i j ≡ true) ⊎ ((i ≡ p .0) × (j ≡ p .1))
+    unfolding among
+    that-one i j = by (eqZ i (p .0)) (eqZ j (p .1)) refl refl
+      where
+        by : (x y : Bool) → eqZ i (p .0) ≡ x → eqZ j (p .1) ≡ y → pick (pick x y false) true (among same-pair (i, j) l) ≡ true
+            → (among same-pair (i, j) l ≡ true) ⊎ ((i ≡ p .0) × (j ≡ p .1))
+        by true true e f q = inr (eqZ-eq i (p .0) e, eqZ-eq j (p .1) f)
+        by true false e f q = inl q
+        by false y e f q = inl q
 
-  that-one : (a b : ℤ) (ls : List (List ℤ)) (i j : ℤ) → of-lines ((a ∷ b ∷ []) ∷ ls) .derived i j ≡ true
-      → (of-lines ls .derived i j ≡ true) ⊎ ((i ≡ a) × (j ≡ b))
-  unfolding printed same-line
-  that-one a b ls i j = by (eqZ i a) (eqZ j b) refl refl
-    where
-      by : (x y : Bool) → eqZ i a ≡ x → eqZ j b ≡ y → pick (pick x (pick y true false) false) true (printed (i ∷ j ∷ []) ls) ≡ true
-          → (printed (i ∷ j ∷ []) ls ≡ true) ⊎ ((i ≡ a) × (j ≡ b))
-      by true true e f q = inr (eqZ-eq i a e, eqZ-eq j b f)
-      by true false e f q = inl q
-      by false y e f q = inl q
-
-  none-known : (to from : ℤ) → Known (Walk (of-lines []) to from)
-  unfolding printed
+  none-known : (to from : ℤ) → Known (Walk (of-pairs []) to from)
+  unfolding among
   none-known to from =
       elim (same-key? from to) [
         | inl e ↦ inl (rw e here)
         | inr n ↦ inr (λ w. n (stays w))
       ]
     where
-      stays : {to from : ℤ} → Walk (of-lines []) to from → from ≡ to
+      stays : {to from : ℤ} → Walk (of-pairs []) to from → from ≡ to
       stays here = refl
       stays (over next e w) = clash (cc)
 
-  pub walk-known : (ls : List (List ℤ)) (to from : ℤ) → Known (Walk (of-lines ls) to from)
+  pub walk-known : (l : List (ℤ × ℤ)) (to from : ℤ) → Known (Walk (of-pairs l) to from)
   walk-known [] to from = none-known to from
-  walk-known (m ∷ ls) to from =
-      elim (line m) [
-        | pair a b e ↦ rw e (known-with (of-lines ls) (of-lines ((a ∷ b ∷ []) ∷ ls)) a b (kept-lines (a ∷ b ∷ []) ls) (one-more a b ls) (that-one a b ls) (walk-known ls) to from)
-        | other n ↦
-            elim (walk-known ls to from) [ inl w ↦ inl (walk-up (kept-lines m ls) w) | inr x ↦ inr (λ w. x (walk-up (no-more m ls n) w)) ]
-      ]
+  walk-known (p ∷ l) to from = known-with (of-pairs l) (of-pairs (p ∷ l)) (p .0) (p .1) (kept-pairs p l) (one-more p l) (that-one p l) (walk-known l) to from

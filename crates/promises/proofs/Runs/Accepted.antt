@@ -16,10 +16,11 @@ use Rattle.catalogue.specs.Steps.Places.{code-known, one-key}
 use Rattle.catalogue.specs.Script.{Script, Read, bad, good, and-then, Header, header-fits, header-of, read-header, key-fits, request-from, request-of-words, read-request, natural, signed, all-of, words, unsnoc, read-line, next-line, read-requests, read-schedule, ended, read-lines, read-script, script-limit, sum}
 use Rattle.catalogue.specs.declared.workers.Request.{Request}
 use Rattle.laws.proofs.Picks.{both-true, clash, pick-some}
-use Rattle.row.specs.Base.{<ℤ-trans, ltZ-true}
-use Rattle.promises.specs.Moments.{All, none, each, Key}
+use Rattle.row.proofs.Base.{<ℤ-trans, ltZ-true}
+use Rattle.promises.specs.Moments.{All, none, each, Key, Fitting}
 use Rattle.promises.specs.Promises.{ScriptsPlayed}
-use Rattle.promises.proofs.Runs.Scripts.{Fitting, script-choices, run-is, run-replies, run-keyed}
+use Rattle.promises.proofs.Runs.Scripts.{script-choices, run-is, run-replies, run-keyed}
+use Rattle.catalogue.specs.Workers.{asks}
 
 -- ---- what was given, was found, was read
 
@@ -53,17 +54,17 @@ fitting-from : (code : ℕ) (keys : List ℤ) (q : Request) → every key-fits k
 unfolding every
 fitting-from code [] q e r = clash (cc)
 fitting-from code (k ∷ []) q e r =
-    let z = pick-some (one-key code) (some (record { code = code; k = k; l = pos 0 })) q r in
-    let same : record { code = code; k = k; l = pos 0 } ≡ q = (let s = z .1 in cc) in
+    let z = pick-some (one-key code) (some (asks code k (pos 0))) q r in
+    let same : asks code k (pos 0) ≡ q = (let s = z .1 in cc) in
     let h = both-true (key-fits k) true e in
     rw (sym same) (record { first = key-of k (h .0); second = no-key })
 fitting-from code (k ∷ (l ∷ [])) q e r =
     let z = un-pick (one-key code) r in
-    let same : record { code = code; k = k; l = l } ≡ q = (let s = z .1 in cc) in
+    let same : asks code k l ≡ q = (let s = z .1 in cc) in
     let h = both-true (key-fits k) (pick (key-fits l) true false) e in
     rw (sym same) (record { first = key-of k (h .0); second = key-of l (both-true (key-fits l) true (h .1) .0) })
   where
-    un-pick : (t : Bool) → pick t none (some (record { code = code; k = k; l = l })) ≡ some q → (t ≡ false) × (_≡_ {A = Option Request} (some (record { code = code; k = k; l = l })) (some q))
+    un-pick : (t : Bool) → pick t none (some (asks code k l)) ≡ some q → (t ≡ false) × (_≡_ {A = Option Request} (some (asks code k l)) (some q))
     un-pick true e = clash (cc)
     un-pick false e = (refl, e)
 fitting-from code (k ∷ (l ∷ (m ∷ ms))) q e r = clash (cc)

@@ -3,8 +3,8 @@ use Prim.Native.Nat.{ℕ}
 use mathlib.Core.List.{List}
 use lib.ListN.{length}
 use lib.Seq.{take-length}
-use Rattle.catalogue.specs.Runs.{Choice}
-use Rattle.row.specs.Machine.Runs.{Conf, conf}
+use Rattle.catalogue.specs.Choosing.{Choice}
+use Rattle.row.specs.Machine.Choices.{Conf, conf}
 use Rattle.promises.specs.Moments.{Given, at}
 use Rattle.promises.specs.Promises.{NoLoop, NeverTorn, SoundAtRest}
 use Rattle.promises.proofs.Lists.AtRest.{rest-sound}

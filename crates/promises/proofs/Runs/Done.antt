@@ -1,4 +1,5 @@
--- What is shown of every call: the machine makes a choice of its own that leaves the same and answers the same. A refused call changes nothing.
+-- What is shown of every call: the machine makes a choice of its own with the same result and the same answer.
+-- A refused call changes nothing.
 use Prim.Native.Nat.{ℕ, _≤_, _<_}
 use mathlib.Core.Bool.{true}
 use mathlib.Core.Option.{Option, none}
@@ -10,7 +11,7 @@ use lib.Dec.{ltb}
 use Rattle.catalogue.specs.Tests.{upd}
 use Rattle.catalogue.specs.Catalogue.{Catalogue}
 use Rattle.catalogue.specs.Calls.{After, count-fits, worker-fits, refuse}
-use Rattle.catalogue.specs.Runs.{Moment}
+use Rattle.catalogue.specs.Choosing.{Moment}
 use Rattle.catalogue.specs.Workers.{worker-at, put}
 use Rattle.catalogue.specs.declared.answers.Refusal.{Refusal}
 use Rattle.catalogue.specs.declared.answers.Refusal.the-variants as refusal
@@ -18,12 +19,12 @@ use Rattle.catalogue.specs.declared.answers.Answer.{Answer}
 use Rattle.catalogue.specs.declared.answers.Answer.the-variants as answer
 use Rattle.catalogue.specs.declared.workers.Worker.{Worker}
 use Rattle.laws.proofs.Picks.{both-true, clash}
-use Rattle.row.specs.Base.{upd-at, upd-other, same?}
+use Rattle.row.proofs.Base.{upd-at, upd-other, same?}
 use Rattle.row.specs.Rows.Row.{Call}
 use Rattle.row.specs.Machine.World.{World, Spot, Rest}
 use Rattle.row.specs.Machine.Moves.{move}
-use Rattle.row.specs.Machine.Runs.{Conf, Choice, steps, close, act}
-use Rattle.row.specs.Runs.Course.{Fine, act-fine}
+use Rattle.row.specs.Machine.Choices.{Conf, Choice, steps, close, act}
+use Rattle.row.proofs.Events.Fine.{Fine, act-fine}
 use Rattle.promises.proofs.Showing.Shows.{Shows, Shown}
 use Rattle.promises.specs.Alone.{Ask}
 use Rattle.promises.specs.Histories.{Begun}
@@ -52,14 +53,16 @@ module _ (workers : ℕ) (m : Moment) (X : Conf) (h : Held workers m X) (v : ℕ
 
 -- ---- what one call does
 
--- What a call of the host tells by its answer: what it takes up for each worker, and the call that it answers. A refusal tells nothing.
+-- What the answer to a call of the host reports: what it takes up for each worker, and the call that it answers.
+-- A refusal reports nothing.
 pub record Tells : Type 0 where
   pub up : Answer → ℕ → Option Ask
   pub call : Answer → (ℕ → Begun) → Option (Call Ask ℕ)
   pub no-up : (r : Refusal) (w : ℕ) → up (answer.Refused r) w ≡ none
   pub no-call : (r : Refusal) (b : ℕ → Begun) → call (answer.Refused r) b ≡ none
 
--- After a call the machine has made a choice of its own, which leaves what the call leaves and tells what it tells; and the call was not torn.
+-- After a call the machine has made a choice of its own, with the same result, which reports the same;
+-- and the call was not torn.
 pub record Done (workers : ℕ) (X : Conf) (t : Tells) (a : After) : Type 0 where
   pub choice : Choice
   pub held : Held workers (record { catalogue = a .catalogue; table = a .table }) (act X choice)
@@ -67,7 +70,7 @@ pub record Done (workers : ℕ) (X : Conf) (t : Tells) (a : After) : Type 0 wher
   pub whole : a .answer ≡ answer.Refused refusal.Torn → ⊥
 
 module _ (workers : ℕ) (m : Moment) (X : Conf) (h : Held workers m X) (most : workers ≤ 8) where
-  -- a worker that is nobody's rests, and its step changes nothing
+  -- a worker beyond the table rests, and its step changes nothing
   nobody : X .at 8 ≡ Rest
   nobody = h .beyond 8 most
 
@@ -91,7 +94,7 @@ module _ (workers : ℕ) (m : Moment) (X : Conf) (h : Held workers m X) (most : 
     beyond = λ w l. quiet-at w ∙ h .beyond w l;
   }
 
-  -- and tells nothing
+  -- and reports nothing
   pub quiet-same : (up : ℕ → Option Ask) (call : (ℕ → Begun) → Option (Call Ask ℕ)) → ((w : ℕ) → up w ≡ none) → ((b : ℕ → Begun) → call b ≡ none)
       → Same X (steps 8) up call
   quiet-same up call u c = record {
@@ -109,7 +112,7 @@ module _ (workers : ℕ) (m : Moment) (X : Conf) (h : Held workers m X) (most : 
     whole = λ e. n (cc);
   }
 
--- a worker whom the table has
+-- a worker that the table has
 pub in-table : {workers : ℕ} {m : Moment} {X : Conf} → Held workers m X → (v : ℕ) → worker-fits (m .table .count) v ≡ true → v < workers
 unfolding worker-fits
 in-table {m = m} h v e = omega (arith, ltb-true v (m .table .count) (both-true (count-fits (m .table .count)) (ltb v (m .table .count)) e .1), h .counted)

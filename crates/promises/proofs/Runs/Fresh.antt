@@ -5,15 +5,15 @@ use native.Mathlib.Omega.{arith}
 use Rattle.catalogue.specs.Tests.{upd}
 use Rattle.catalogue.specs.Catalogue.{fresh, vertex-key, vertex-key-in, vertex-link, vertex-link-in, edge-key, edge-key-in}
 use Rattle.catalogue.specs.declared.links.VertexLink.the-variants as vertex
-use Rattle.catalogue.specs.Runs.{start}
+use Rattle.catalogue.specs.Choosing.{start}
 use Rattle.catalogue.specs.Workers.{idle, worker-at, idle-table}
-use Rattle.row.specs.Machine.Runs
-use Rattle.row.specs.Runs.Course.{fresh-fine}
+use Rattle.row.specs.Machine.Choices
+use Rattle.row.proofs.Events.Fine.{fresh-fine}
 use Rattle.promises.proofs.Showing.Shows.{Shows}
 use Rattle.promises.proofs.Steps.Deciding.{rests}
 use Rattle.promises.proofs.Runs.Held.{Held}
 
-pub fresh-shows : Shows fresh (Runs.fresh .world)
+pub fresh-shows : Shows fresh (Choices.fresh .world)
 unfolding vertex-key-in vertex-link-in edge-key-in upd
 fresh-shows = record {
   vertices = refl;
@@ -28,17 +28,17 @@ fresh-shows = record {
   targets = λ e l h. absurd (omega arith);
 }
   where
-    key : (x : ℕ) → x < 2 → vertex-key fresh x ≡ Runs.fresh .world .v .key x
+    key : (x : ℕ) → x < 2 → vertex-key fresh x ≡ Choices.fresh .world .v .key x
     key zero h = refl
     key (suc zero) h = refl
     key (suc (suc x)) h = absurd (omega arith)
 
-    link : (x : ℕ) → x < 2 → (x ≡ 1 → ⊥) → vertex-link fresh x ≡ vertex.At (Runs.fresh .world .v .next x) 0
+    link : (x : ℕ) → x < 2 → (x ≡ 1 → ⊥) → vertex-link fresh x ≡ vertex.At (Choices.fresh .world .v .next x) 0
     link zero h n = refl
     link (suc zero) h n = absurd (n refl)
     link (suc (suc x)) h n = absurd (omega arith)
 
-    ekey : (e : ℕ) → e < 1 → edge-key fresh e ≡ Runs.fresh .world .e .key e
+    ekey : (e : ℕ) → e < 1 → edge-key fresh e ≡ Choices.fresh .world .e .key e
     ekey zero h = refl
     ekey (suc e) h = absurd (omega arith)
 
@@ -54,7 +54,7 @@ module _ (workers : ℕ) where
   idle-at (suc (suc (suc (suc (suc (suc (suc zero))))))) h = refl
   idle-at (suc (suc (suc (suc (suc (suc (suc (suc w)))))))) h = absurd (omega arith)
 
-  pub start-held : Held workers (start workers) Runs.fresh
+  pub start-held : Held workers (start workers) Choices.fresh
   start-held = record {
     shows = fresh-shows;
     fine = fresh-fine;

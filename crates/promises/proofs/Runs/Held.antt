@@ -5,15 +5,15 @@ use mathlib.Core.Path.{_≡_, refl, _∙_}
 use native.Mathlib.Omega.{arith}
 use lib.ListN.{length, length-set}
 use lib.Seq.{getD-set-same, getD-set-other}
-use Rattle.catalogue.specs.Runs.{Moment}
+use Rattle.catalogue.specs.Choosing.{Moment}
 use Rattle.catalogue.specs.Workers.{blank, worker-at, put, busy-at}
 use Rattle.catalogue.specs.declared.workers.Table.{Table}
 use Rattle.catalogue.specs.declared.workers.Worker.{Worker}
 use Rattle.row.specs.Machine.Vertices.{Idle, AddV, RemV, ConV}
 use Rattle.row.specs.Machine.World.{Opened, closed, opened, adds, rems, cons, Spot, Rest, Vert, FindU, FindV, LookE, ConE, Trial}
-use Rattle.row.specs.Machine.Runs.{Conf, resting}
-use Rattle.row.specs.Runs.Course.{Fine}
-use Rattle.promises.proofs.Showing.Shows.{Shows, Shown, Stands, Series, Open, trial-place}
+use Rattle.row.specs.Machine.Choices.{Conf, resting}
+use Rattle.row.proofs.Events.Fine.{Fine}
+use Rattle.promises.proofs.Showing.Shows.{Shows, Shown, Stands, Series, Open, trial-place, between}
 
 pub record Held (workers : ℕ) (m : Moment) (X : Conf) : Type 0 where
   pub shows : Shows (m .catalogue) (X .world)
@@ -23,7 +23,7 @@ pub record Held (workers : ℕ) (m : Moment) (X : Conf) : Type 0 where
   pub shown : (w : ℕ) → w < 8 → Shown (X .world .v .used) (worker-at (m .table) w) (X .at w)
   pub beyond : (w : ℕ) → workers ≤ w → X .at w ≡ Rest
 
--- ---- more vertices handed out leave a record shown
+-- ---- with more vertices handed out a record is still shown
 
 module _ (used used′ : ℕ) (h : used ≤ used′) where
   series-up : {x : ℕ} → Series used x → Series used′ x
@@ -52,13 +52,7 @@ module _ (used used′ : ℕ) (h : used ≤ used′) where
       let r = p .1 in (
         p .0,
         record {
-          met-words = r .met-words;
-          queue-length = r .queue-length;
-          ordered = r .ordered;
-          fits = r .fits;
-          met-same = r .met-same;
-          counted = r .counted;
-          queue-same = r .queue-same;
+          queued = r .queued;
           searched = let d = r .searched in record {
             met-series = λ x m. series-up (d .met-series x m);
             taken-met = d .taken-met;
@@ -66,7 +60,6 @@ module _ (used used′ : ℕ) (h : used ≤ used′) where
             todo-new = d .todo-new;
             todo-once = d .todo-once;
           };
-          weighed = r .weighed;
           open-series = open-up (z .stand) (r .open-series);
         },
       )
@@ -93,7 +86,7 @@ busy-is used w (LookE false k l u v q c) p = rw (p .0) refl
 busy-is used w (ConE k l u v c) p = rw p refl
 busy-is used w (Trial k l u v e h) p = rw (p .0) (by (h .stand))
   where
-    by : (o : Opened) → busy-at (trial-place k l u v e o) ≡ true
+    by : (o : Opened) → busy-at (trial-place (between k l u v) e o) ≡ true
     by closed = refl
     by (opened x c) = refl
 

@@ -1,4 +1,5 @@
--- The machine's choices over a whole run, and what holds before each of them. Past the end of the list the host is refused, so nothing changes.
+-- The machine's choices over a whole run, and what holds before each of them.
+-- Past the end of the list the host is refused, so nothing changes.
 use Prim.Native.Nat.{ℕ, zero, suc}
 use mathlib.Core.Bool.{false}
 use mathlib.Core.List.{List, [], _∷_}
@@ -9,10 +10,10 @@ use borrow.Author.Tests.{le-ltb}
 use lib.Dec.{ltb}
 use lib.ListN.{getD, take}
 use Rattle.catalogue.specs.Calls.{worker-fits, count-fits, step}
-use Rattle.catalogue.specs.Runs.{Choice, steps, Moment, start, choose, after}
+use Rattle.catalogue.specs.Choosing.{Choice, steps, Moment, start, choose, after}
 use Rattle.laws.proofs.Picks.{pick-both}
-use Rattle.row.specs.Machine.Runs.{Conf, act, conf}
-use Rattle.row.specs.Machine.Runs
+use Rattle.row.specs.Machine.Choices.{Conf, act, conf}
+use Rattle.row.specs.Machine.Choices
 use Rattle.promises.specs.Moments.{All, none, each, Keyed, Given, moment, chosen}
 use Rattle.promises.specs.Histories.{taken-up, answered-by}
 use Rattle.promises.proofs.Runs.Held.{Held}
@@ -47,9 +48,10 @@ keyed-at workers [] none (suc n) = tt
 keyed-at workers (c ∷ cs) (each k ks) zero = k
 keyed-at workers (c ∷ cs) (each k ks) (suc n) = keyed-at workers cs ks n
 
--- The machine's choices over a run: what holds before each of them, and that each tells what the host's choice tells.
+-- The machine's choices over a run: what holds before each of them, and that each reports what the host's choice
+-- does.
 pub record Run (workers : ℕ) (choices : List Choice) : Type 0 where
-  pub schedule : ℕ → Runs.Choice
+  pub schedule : ℕ → Choices.Choice
   pub held : (n : ℕ) → Held workers (moment workers choices n) (conf schedule n)
   pub same : (n : ℕ)
       → Same (conf schedule n) (schedule n) (taken-up (moment workers choices n) (chosen workers choices n))
@@ -77,7 +79,7 @@ module _ (workers : ℕ) (choices : List Choice) (given : Given workers choices)
   then : (n : ℕ) (z : Stand n) → Next workers (at n) (z .place) (does n)
   then n z = next workers (given .most) (at n) (z .place) (z .held) (does n) (keyed-at workers choices (given .keyed) n)
 
-  held-first : Held workers (at 0) Runs.fresh
+  held-first : Held workers (at 0) Choices.fresh
   unfolding after
   held-first = start-held workers
 
@@ -85,10 +87,10 @@ module _ (workers : ℕ) (choices : List Choice) (given : Given workers choices)
   held-next n z = rw (moment-next n (z .held .counted)) (then n z .held)
 
   unfoldable stand : (n : ℕ) → Stand n
-  stand zero = record { place = Runs.fresh; held = held-first }
+  stand zero = record { place = Choices.fresh; held = held-first }
   stand (suc n) = record { place = act (stand n .place) (then n (stand n) .choice); held = held-next n (stand n) }
 
-  abbrev made : ℕ → Runs.Choice
+  abbrev made : ℕ → Choices.Choice
   made n = then n (stand n) .choice
 
   stand-is : (n : ℕ) → conf made n ≡ stand n .place

@@ -1,4 +1,5 @@
--- Playing a script is making choices: each turn of the schedule is one, or none where an idle worker has no request left.
+-- Playing a script is making choices: each turn of the schedule is one,
+-- or none where an idle worker has no request left.
 use Prim.Native.Nat.{ℕ, zero, suc}
 use mathlib.Core.Bool.{Bool, true, false}
 use mathlib.Core.List.{List, [], _∷_, _++_, map, map-append, append-assoc, append-nil}
@@ -10,15 +11,15 @@ use Rattle.catalogue.specs.Tests.{pick}
 use Rattle.catalogue.specs.Calls.{step}
 use Rattle.catalogue.specs.Listing.{Reply-line}
 use Rattle.catalogue.specs.Run.{Running, shares, with-reply, turn, takes-up, steps-on, play, run}
-use Rattle.catalogue.specs.Runs.{Choice, takes, steps, Moment, start, choose, after}
+use Rattle.catalogue.specs.Choosing.{Choice, takes, steps, Moment, start, choose, after}
 use Rattle.catalogue.specs.Script.{Script}
 use Rattle.catalogue.specs.Workers.{busy}
 use Rattle.catalogue.specs.declared.answers.Answer.{Answer}
 use Rattle.catalogue.specs.declared.answers.Answer.the-variants as answer
 use Rattle.catalogue.specs.declared.workers.Request.{Request}
-use Rattle.row.specs.Base.{same?, lt-or}
-use Rattle.row.specs.Rows.Assemble.{all-append}
-use Rattle.promises.specs.Moments.{All, none, each, Key, Keyed, at}
+use Rattle.row.proofs.Base.{same?, lt-or}
+use Rattle.row.proofs.Assemble.{all-append}
+use Rattle.promises.specs.Moments.{All, none, each, Keyed, at, Fitting}
 use Rattle.promises.specs.Histories.{reply-to, reply-by, replies-of}
 
 -- ---- the choices of a schedule
@@ -28,7 +29,7 @@ moment-of r = record { catalogue = r .catalogue; table = r .table }
 
 abbrev taking : ℕ → List Request → List Choice
 taking w [] = []
-taking w (q ∷ qs) = takes w (q .code) (q .k) (q .l) ∷ []
+taking w (q ∷ qs) = takes w q ∷ []
 
 abbrev turned : Running → ℕ → List Choice
 turned r w = pick (busy (r .table) w) (steps w ∷ []) (taking w (getD (r .left) w []))
@@ -72,7 +73,7 @@ replies-both m (x ∷ xs) ys =
     ap (λ l. reply-by m x ++ l) (replies-both (choose m x .moment) xs ys)
     ∙ sym (append-assoc (reply-by m x) (replies-of (choose m x .moment) xs) (replies-of (after (choose m x .moment) xs) ys))
 
--- a reply comes behind those before it
+-- a reply comes after those before it
 replied-is : (l : List Reply-line) (position w code : ℕ) (a : Answer) → map told (with-reply l position w code a) ≡ map told l ++ (reply-to w a ++ [])
 replied-is l position w code (answer.Going met) = sym (append-nil (map told l))
 replied-is l position w code (answer.Reply n) = map-append told l _
@@ -100,11 +101,6 @@ play-replies r position (w ∷ ws) =
     ∙ ap (λ l. map told (r .replies) ++ l) (sym (replies-both (moment-of r) (turned r w) then))
 
 -- ---- their keys
-
--- a request with keys of 32 bits
-pub record Fitting (q : Request) : Type 0 where
-  pub first : Key (q .k)
-  pub second : Key (q .l)
 
 all-take : {P : Request → Type 0} (n : ℕ) {xs : List Request} → All P xs → All P (take n xs)
 all-take zero a = none
@@ -138,7 +134,7 @@ rest-fits left w qs l a v =
 
 taking-fits : (w : ℕ) (qs : List Request) → All Fitting qs → All Keyed (taking w qs)
 taking-fits w [] a = none
-taking-fits w (q ∷ qs) (each p a) = each {x = takes w (q .code) (q .k) (q .l)} (p .first, p .second) none
+taking-fits w (q ∷ qs) (each p a) = each {x = takes w q} p none
 
 -- one turn, and then all of them
 left-after : (r : Running) (position w : ℕ) → Left (r .left) → Left (turn r position w .left)

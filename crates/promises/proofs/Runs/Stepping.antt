@@ -1,12 +1,12 @@
 -- A choice to step: where it is refused nothing changes, and else the machine makes the same move.
-use Prim.Native.Nat.{ℕ, suc, _≤_, _<_}
+use Prim.Native.Nat.{ℕ, _≤_, _<_}
 use mathlib.Core.Bool.{true, not}
 use mathlib.Core.Option.{Option, none, some}
 use mathlib.Core.Path.{_≡_, refl, sym, ap, _∙_, subst}
 use native.Mathlib.Omega.{arith}
 use Rattle.catalogue.specs.Catalogue.{Catalogue}
 use Rattle.catalogue.specs.Calls.{After, worker-fits, refuse, perform, step}
-use Rattle.catalogue.specs.Runs.{Moment}
+use Rattle.catalogue.specs.Choosing.{Moment}
 use Rattle.catalogue.specs.Workers.{worker-at, put, busy}
 use Rattle.catalogue.specs.Writes.{commit}
 use Rattle.catalogue.specs.Steps.Decide.{decide, record-after, write-of, answer-of}
@@ -22,8 +22,8 @@ use Rattle.laws.proofs.Picks.{pick-both, clash}
 use Rattle.row.specs.Rows.Row.{Call}
 use Rattle.row.specs.Machine.World.{World, Spot, Rest}
 use Rattle.row.specs.Machine.Moves.{move}
-use Rattle.row.specs.Machine.Runs.{resting, Conf, steps, act, Began, close}
-use Rattle.row.specs.Runs.Course.{Fine, act-fine, act-both}
+use Rattle.row.specs.Machine.Choices.{resting, Conf, steps, act, Began, close}
+use Rattle.row.proofs.Events.Fine.{more-vertices, act-fine, act-both}
 use Rattle.promises.specs.Alone.{Ask}
 use Rattle.promises.specs.Histories.{Begun, answers}
 use Rattle.promises.proofs.Showing.Shows.{Sure, reply-of}
@@ -31,14 +31,6 @@ use Rattle.promises.proofs.Steps.Follow.{follow}
 use Rattle.promises.proofs.Runs.Held.{Held, busy-is}
 use Rattle.promises.proofs.Runs.Telling.{begun-of, answered-of}
 use Rattle.promises.proofs.Runs.Done.{held-with, Tells, Done, refused, in-table}
-
--- no vertex is handed back
-used-up : (X : Conf) → Fine X → (v : ℕ) → X .world .v .used ≤ move (X .world) (X .at v) .world .v .used
-used-up X f v =
-    by (X .world .v .used) (f .good .good .sound .some) (act-both X f (steps v) (λ W z. clash (cc)) .vm .stays)
-  where
-    by : (n : ℕ) {m : ℕ} → 2 ≤ n → ((x : ℕ) → x < n → x < m) → n ≤ m
-    by (suc n) h s = s n (omega arith)
 
 -- what an answer replies, and the call that it answers
 abbrev pub replied : Answer → Option ℕ
@@ -107,7 +99,7 @@ module _ (workers : ℕ) (m : Moment) (X : Conf) (h : Held workers m X) (most : 
       (record {
         held =
             held-with workers m X h v low most (commit (m .catalogue) (write-of d)) (move W (X .at v) .world) (record-after w d) (move W (X .at v) .spot)
-            (f .world) (act-fine X (h .fine) (steps v) (λ W e g. clash (cc))) (used-up X (h .fine) v) (f .spot);
+            (f .world) (act-fine X (h .fine) (steps v) (λ W e g. clash (cc))) (more-vertices (h .fine .good) (act-both X (h .fine) (steps v) (λ W z. clash (cc)))) (f .spot);
         same-reply = q .replies ∙ f .reply;
         whole = q .whole;
       })

@@ -1,4 +1,4 @@
--- A choice to sweep: where somebody is busy it is refused, and else the machine goes on from the swept world.
+-- A choice to sweep: where a worker is busy it is refused, and else the machine goes on from the swept world.
 use Prim.Native.Nat.{ℕ, zero, suc, _≤_, _<_}
 use mathlib.Core.Bool.{Bool, true, false, not}
 use mathlib.Core.Option.{none}
@@ -7,7 +7,7 @@ use mathlib.Core.Logic.{inl, inr}
 use native.Mathlib.Omega.{arith}
 use Rattle.catalogue.specs.Tests.{pick}
 use Rattle.catalogue.specs.Calls.{count-fits}
-use Rattle.catalogue.specs.Runs.{Moment}
+use Rattle.catalogue.specs.Choosing.{Moment}
 use Rattle.catalogue.specs.Soundness.{sound}
 use Rattle.catalogue.specs.Soundness
 use Rattle.catalogue.specs.Sweep.{After-sweep, swept, sweep-into, any-busy, refuse-sweep}
@@ -17,12 +17,12 @@ use Rattle.catalogue.specs.declared.answers.Refusal.the-variants as refusal
 use Rattle.catalogue.specs.declared.answers.Made.the-variants as made
 use Rattle.catalogue.specs.declared.workers.Table.{Table}
 use Rattle.laws.proofs.Picks.{clash}
-use Rattle.row.specs.Base.{same?, lt-or}
+use Rattle.row.proofs.Base.{same?, lt-or}
 use Rattle.row.specs.Machine.World
 use Rattle.row.specs.Machine.World.{World, Spot, Rest, Untried, graph}
-use Rattle.row.specs.Machine.Runs.{resting, all-rest, Conf, Choice, steps, sweeps, act}
-use Rattle.row.specs.Graphs.Good.{WGood}
-use Rattle.row.specs.Runs.Course.{act-fine, rest-untried}
+use Rattle.row.specs.Machine.Choices.{resting, all-rest, Conf, Choice, steps, sweeps, act}
+use Rattle.row.proofs.Graphs.Good.{WGood}
+use Rattle.row.proofs.Events.Fine.{act-fine, rest-untried}
 use Rattle.promises.proofs.Showing.Shows.{Shown}
 use Rattle.promises.proofs.Showing.Tests.{neither}
 use Rattle.promises.proofs.Lists.AtRest.{rest-sound}
@@ -31,7 +31,7 @@ use Rattle.promises.proofs.Runs.Held.{Held, busy-is}
 use Rattle.promises.proofs.Runs.Telling.{Same}
 use Rattle.promises.proofs.Runs.Done.{quiet, quiet-same}
 
--- ---- everybody rests
+-- ---- all workers rest
 
 -- as far as the machine's workers below a number go
 rest-up : (n : ℕ) (f : ℕ → Spot) → ((w : ℕ) → w < n → f w ≡ Rest) → all-rest n f ≡ true

@@ -1,4 +1,5 @@
--- The machine's requests, calls and graphs read as those of a run, and what it is for both to tell the same of one choice.
+-- The machine's requests, calls and graphs read as those of a run;
+-- and what it is for both to report the same of one choice.
 use Prim.Native.Nat.{ℕ}
 use mathlib.Core.Option.{Option, none, some}
 use mathlib.Core.Path.{_≡_}
@@ -6,9 +7,9 @@ use Rattle.row.specs.Rows.Row.{Call}
 use Rattle.row.specs.Machine.Vertices.{addV, remV, conV}
 use Rattle.row.specs.Machine.World.{World, vert, addE, remE, conE, graph, Untried}
 use Rattle.row.specs.Machine.Moves.{move}
-use Rattle.row.specs.Machine.Runs.{Conf, Choice, takes, steps, sweeps, opens, Began, close}
+use Rattle.row.specs.Machine.Choices.{Conf, Choice, takes, steps, sweeps, opens, Began, close}
 use Rattle.row.specs.Machine.World
-use Rattle.row.specs.Graphs.Good.{WGood}
+use Rattle.row.proofs.Graphs.Good.{WGood}
 use Rattle.promises.specs.Graphs.{Graph}
 use Rattle.promises.specs.Alone.{Ask, AddV, RemV, ConV, AddE, RemE, ConE}
 use Rattle.promises.specs.Histories.{Begun}
@@ -44,7 +45,8 @@ said-by b X (takes w q) = none
 said-by b X (steps w) = close (b w) (move (X .world) (X .at w) .answer)
 said-by b X (sweeps W) = none
 
--- The machine's choice takes up for each worker what is taken up, answers the call that is answered, and is no sweep but an honest one.
+-- The machine's choice takes up for each worker what is taken up, and answers the call that is answered;
+-- it is no sweep but an honest one.
 pub record Same (X : Conf) (choice : Choice) (up : ℕ → Option Ask) (call : (ℕ → Begun) → Option (Call Ask ℕ)) : Type 0 where
   pub taken : (w : ℕ) → taken-of (opens X choice w) ≡ up w
   pub answered : (b : ℕ → Began) → answered-of (said-by b X choice) ≡ call (λ w. begun-of (b w))

@@ -1,4 +1,4 @@
--- The link of an edge, or the first-edge link of a vertex, is written: another tag, or another node behind p.
+-- The link of an edge, or the first-edge link of a vertex, is written: another tag, or another node after p.
 use Prim.Native.Nat.{ℕ, _≤_, _<_}
 use mathlib.Core.Path.{_≡_, _∙_}
 use mathlib.Core.Logic.{inl, inr}
@@ -12,7 +12,7 @@ use Rattle.catalogue.specs.Steps.Edges.{relink}
 use Rattle.catalogue.specs.declared.links.EdgeLink.the-variants as edge
 use Rattle.catalogue.specs.declared.writes.Write.the-variants.{EdgeLink}
 use Rattle.laws.proofs.Leads.{edge-next-in, first-next-in}
-use Rattle.row.specs.Base.{upd-same, upd-other, same?}
+use Rattle.row.proofs.Base.{upd-same, upd-other, same?}
 use Rattle.row.specs.Lists.Edges.{Tag, Prev, head, at, Edges, link, put-first, put-next, eunlink, retag}
 use Rattle.row.specs.Machine.World.{World, with-e}
 use Rattle.promises.proofs.Showing.Shows.{Shows, Series, prev-of, edge-tag-of}
@@ -29,7 +29,7 @@ abbrev pub Behind : ℕ → Prev → Type 0
 Behind used head = Unit {0}
 Behind used (at p) = Out used p
 
--- the tag of the link behind which one stands
+-- the tag of p's link
 abbrev pub tag-behind : (ℕ → Tag) → Prev → ℕ
 tag-behind tag head = plain
 tag-behind tag (at p) = edge-tag-of (tag p)
@@ -46,8 +46,8 @@ module _ (C : Catalogue) (W : World) (s : Shows C W) (e : ℕ) (o : Out (W .e .u
   unfolding commit
   links f l h =
       elim (leads f) [
-        | inl q ↦ rw (q .1, q .2, q .0) (edge-there (C .elink) e n t (o .0) (omega (arith, o .1, edges-in-pool C W s)) fits)
-        | inr q ↦ rw (q .1, q .2) (edge-else (C .elink) e (numbers.link n (edge-tag-of t)) f (q .0) ∙ s .elinks f l h)
+        | inl q ↦ rw (q .1, q .2, q .0) (edge-there (C .edges .link) e n t (o .0) (omega (arith, o .1, edges-in-pool C W s)) fits)
+        | inr q ↦ rw (q .1, q .2) (edge-else (C .edges .link) e (numbers.link n (edge-tag-of t)) f (q .0) ∙ s .elinks f l h)
       ]
 
   shows-link : Shows (commit C (EdgeLink e n (edge-tag-of t))) (with-e W (turned (W .e) (W .e .first) next tag))
@@ -67,24 +67,24 @@ module _ (C : Catalogue) (W : World) (s : Shows C W) (e : ℕ) (o : Out (W .e .u
 
 -- a link leads into the pool
 pub first-fits : (C : Catalogue) (W : World) → Shows C W → (u : ℕ) → Series (W .v .used) u → W .e .first u < 2048
-first-fits C W s u o = first-next-in (C .first) u (W .e .first u) plain (s .firsts u (o .low) (o .high))
+first-fits C W s u o = first-next-in (C .vertices .first) u (W .e .first u) plain (s .firsts u (o .low) (o .high))
 
 pub next-fits : (C : Catalogue) (W : World) → Shows C W → (e : ℕ) → Out (W .e .used) e → W .e .next e < 2048
-next-fits C W s e o = edge-next-in (C .elink) e (W .e .next e) (edge-tag-of (W .e .tag e)) (s .elinks e (o .0) (o .1))
+next-fits C W s e o = edge-next-in (C .edges .link) e (W .e .next e) (edge-tag-of (W .e .tag e)) (s .elinks e (o .0) (o .1))
 
 pub shows-retag : (C : Catalogue) (W : World) → Shows C W → (e : ℕ) → Out (W .e .used) e → (t : Tag)
     → Shows (commit C (EdgeLink e (W .e .next e) (edge-tag-of t))) (with-e W (retag (W .e) e t))
 shows-retag C W s e o t =
     shows-link C W s e o (W .e .next e) (next-fits C W s e o) t (W .e .next) (upd (W .e .tag) e t) (another-tag (W .e .next) (W .e .tag) e t)
 
--- ---- another node behind p
+-- ---- another node after p
 
 module _ (C : Catalogue) (W : World) (s : Shows C W) (n : ℕ) (fits : n < 2048) where
   first-turned : (u x : ℕ) → 2 ≤ x → x < W .v .used → first-link (with-first C u (numbers.link n plain)) x ≡ edge.At (upd (W .e .first) u n x) plain
   first-turned u x l h =
       elim (same? x u) [
-        | inl q ↦ rw (q, upd-same (W .e .first) u n) (first-there (C .first) u n fits)
-        | inr d ↦ rw (upd-other (W .e .first) u n x d) (first-else (C .first) u (numbers.link n plain) x d ∙ s .firsts x l h)
+        | inl q ↦ rw (q, upd-same (W .e .first) u n) (first-there (C .vertices .first) u n fits)
+        | inr d ↦ rw (upd-other (W .e .first) u n x d) (first-else (C .vertices .first) u (numbers.link n plain) x d ∙ s .firsts x l h)
       ]
 
   pub shows-relink : (u : ℕ) (p : Prev) → Behind (W .e .used) p

@@ -10,8 +10,8 @@ use Rattle.catalogue.specs.Catalogue.{Catalogue}
 use Rattle.catalogue.specs.declared.links.Room.{Room}
 use Rattle.catalogue.specs.declared.links.Room.the-variants as room
 use Rattle.laws.proofs.Picks.{pick-both}
-use Rattle.row.specs.Graphs.Good.{WGood}
-use Rattle.row.specs.Graphs.Graph.{IsV}
+use Rattle.row.proofs.Graphs.Good.{WGood}
+use Rattle.row.proofs.Graphs.Graph.{IsV}
 use Rattle.row.specs.Lists.Store.{Cat}
 use Rattle.row.specs.Machine.World.{World}
 use Rattle.promises.proofs.Showing.Shows.{Shows, Series}

@@ -1,5 +1,6 @@
--- How a catalogue of document 01 and a worker's record show the world and the spot of the machine of `row`: every word that is handed out is a whole link,
--- and says what the world says. What is not handed out may be anything.
+-- How a catalogue of document 01 and a worker's record show the world and the spot of the machine of `row`:
+-- every word that is handed out is a whole link, and says what the world says.
+-- What is not handed out may be anything.
 use Prim.Native.Nat.{ℕ, _+_, _≤_, _<_}
 use mathlib.Core.Bool.{Bool, true, false}
 use mathlib.Core.List.{List}
@@ -9,7 +10,7 @@ use lib.IntN.{ℤ}
 use lib.ListN.{length, take, drop}
 use Rattle.catalogue.specs.Numbers.{edge-pool, plain}
 use Rattle.catalogue.specs.Catalogue.{Catalogue, vertex-key, vertex-link, first-link, edge-key, edge-link, edge-target}
-use Rattle.catalogue.specs.Workers.{has, met-count, request-of}
+use Rattle.catalogue.specs.Workers.{has, met-count, asks-pair, request-of}
 use Rattle.catalogue.specs.Writes.{commit}
 use Rattle.catalogue.specs.Steps.Places.{key-refused}
 use Rattle.catalogue.specs.Steps.Decide.{decide, record-after, write-of}
@@ -18,10 +19,13 @@ use Rattle.catalogue.specs.declared.links.EdgeLink.the-variants as edge
 use Rattle.catalogue.specs.declared.links.Target.the-variants as target
 use Rattle.catalogue.specs.declared.steps.Decision.{Decision}
 use Rattle.catalogue.specs.declared.steps.Decision.the-variants as decision
+use Rattle.catalogue.specs.declared.workers.Ends.{Ends}
+use Rattle.catalogue.specs.declared.workers.Pair.{Pair}
 use Rattle.catalogue.specs.declared.workers.Place.{Place}
 use Rattle.catalogue.specs.declared.workers.Place.the-variants as place
 use Rattle.catalogue.specs.declared.workers.Prev.{Prev}
 use Rattle.catalogue.specs.declared.workers.Prev.the-variants as prev
+use Rattle.catalogue.specs.declared.workers.Reach.{Reach}
 use Rattle.catalogue.specs.declared.workers.Worker.{Worker}
 use Rattle.row.specs.Machine.Vertices.{Idle, AddV, RemV, ConV}
 use Rattle.row.specs.Lists.Edges.{Tag, marked, transit, added, head, at}
@@ -42,12 +46,12 @@ edge-tag-of marked = 1
 edge-tag-of transit = 2
 edge-tag-of added = 3
 
--- The tail's link is read by nobody, and the edge tail has none.
+-- No step reads the tail's link, and the edge tail has none.
 pub record Shows (C : Catalogue) (W : World) : Type 0 where
-  pub vertices : W .v .used ≡ 2 + C .vertices-out
-  pub vertices-fit : C .vertices-out ≤ 254
-  pub edges : W .e .used ≡ 1 + C .edges-out
-  pub edges-fit : C .edges-out ≤ 2047
+  pub vertices : W .v .used ≡ 2 + C .counts .vertices
+  pub vertices-fit : C .counts .vertices ≤ 254
+  pub edges : W .e .used ≡ 1 + C .counts .edges
+  pub edges-fit : C .counts .edges ≤ 2047
   pub vkeys : (x : ℕ) → x < W .v .used → vertex-key C x ≡ W .v .key x
   pub vlinks : (x : ℕ) → x < W .v .used → (x ≡ 1 → ⊥) → vertex-link C x ≡ vertex.At (W .v .next x) (vertex-tag-of (W .v .marked x))
   pub firsts : (x : ℕ) → 2 ≤ x → x < W .v .used → first-link C x ≡ edge.At (W .e .first x) plain
@@ -68,7 +72,7 @@ abbrev pub Open : ℕ → Opened → Type 0
 Open used closed = Unit {0}
 Open used (opened x c) = Series used x
 
--- whom a trial has met: series, of which each was taken, or is still to do, once
+-- what a trial has met: series, of which each was taken, or is still to do, once
 pub record Searched (used : ℕ) (met : ℕ → Bool) (todo : List ℕ) (taken : ℕ → Bool) : Type 0 where
   pub met-series : (x : ℕ) → met x ≡ true → Series used x
   pub taken-met : (x : ℕ) → taken x ≡ true → met x ≡ true
@@ -76,44 +80,65 @@ pub record Searched (used : ℕ) (met : ℕ → Bool) (todo : List ℕ) (taken :
   pub todo-new : All (λ x. taken x ≡ false) todo
   pub todo-once : Distinct todo
 
--- what a trial keeps: the set met, and the queue from its front on; as many are met as were queued, and who stands before the front was taken
-pub record Hunted (used : ℕ) (w : Worker) (h : Hunt) : Type 0 where
-  pub met-words : length (w .met) ≡ 4
-  pub queue-length : length (w .queue) ≡ 256
-  pub ordered : w .front ≤ w .back
-  pub fits : w .back ≤ 256
-  pub met-same : (x : ℕ) → x < 256 → has (w .met) x ≡ h .met x
-  pub counted : met-count (w .met) ≡ w .back
-  pub queue-same : drop (w .front) (take (w .back) (w .queue)) ≡ h .todo
+-- what a trial keeps: the set met, and the queue from its front on;
+-- as many are met as were queued, and what stands before the front was taken
+pub record Queued (r : Reach) (met : ℕ → Bool) (todo : List ℕ) (taken : ℕ → Bool) : Type 0 where
+  pub met-words : length (r .met) ≡ 4
+  pub queue-length : length (r .queue) ≡ 256
+  pub ordered : r .front ≤ r .back
+  pub fits : r .back ≤ 256
+  pub met-same : (x : ℕ) → x < 256 → has (r .met) x ≡ met x
+  pub counted : met-count (r .met) ≡ r .back
+  pub queue-same : drop (r .front) (take (r .back) (r .queue)) ≡ todo
+  pub weighed : (f : ℕ → ℕ) → total f (take (r .front) (r .queue)) ≡ weigh f taken 256
+
+pub record Hunted (used : ℕ) (r : Reach) (h : Hunt) : Type 0 where
+  pub queued : Queued r (h .met) (h .todo) (h .taken)
   pub searched : Searched used (h .met) (h .todo) (h .taken)
-  pub weighed : (f : ℕ → ℕ) → total f (take (w .front) (w .queue)) ≡ weigh f (h .taken) 256
   pub open-series : Open used (h .stand)
 
-abbrev pub trial-place : ℤ → ℤ → ℕ → ℕ → ℕ → Opened → Place
-trial-place k l u v e closed = place.Trial k l u v e
-trial-place k l u v e (opened x c) = place.TrialOpen k l u v e x c
+abbrev pub trial-place : Ends → ℕ → Opened → Place
+trial-place ends e closed = place.Trial ends e
+trial-place ends e (opened x c) = place.TrialOpen ends e x c
 
--- the record stands at the spot, of `used` vertices; a look at edges tests that c is in the pool, though p may no longer lead there
+-- the keys and ends of a spot; AddE's and RemE's look, and a trial, by their ends
+abbrev pub keys : ℤ → ℤ → Pair
+keys k l = record { k = k; l = l }
+
+abbrev pub between : ℤ → ℤ → ℕ → ℕ → Ends
+between k l u v = record { pair = keys k l; u = u; v = v }
+
+abbrev pub at-look : Bool → Ends → Edges.Prev → ℕ → Spot
+at-look b ends = LookE b (ends .pair .k) (ends .pair .l) (ends .u) (ends .v)
+
+abbrev pub at-trial : Ends → ℕ → Hunt → Spot
+at-trial ends = Trial (ends .pair .k) (ends .pair .l) (ends .u) (ends .v)
+
+-- the record stands at the spot, of `used` vertices;
+-- a look at edges tests that c is in the pool, though p may no longer lead there
 abbrev pub Stands : ℕ → Worker → Spot → Type 0
 Stands used w Rest = w .place ≡ place.Idle
 Stands used w (Vert Idle) = ⊥
 Stands used w (Vert (AddV k p c)) = w .place ≡ place.AddV k p c
 Stands used w (Vert (RemV k p c)) = w .place ≡ place.RemV k p c
 Stands used w (Vert (ConV k c)) = w .place ≡ place.ConV k c
-Stands used w (FindU adds k l c) = w .place ≡ place.AddEFindU k l c
-Stands used w (FindU rems k l c) = w .place ≡ place.RemEFindU k l c
-Stands used w (FindU cons k l c) = w .place ≡ place.ConEFindU k l c
-Stands used w (FindV adds k l u c) = w .place ≡ place.AddEFindV k l u c
-Stands used w (FindV rems k l u c) = w .place ≡ place.RemEFindV k l u c
-Stands used w (FindV cons k l u c) = w .place ≡ place.ConEFindV k l u c
-Stands used w (LookE true k l u v p c) = (w .place ≡ place.AddE k l u v (prev-of p) c) × (c < edge-pool)
-Stands used w (LookE false k l u v p c) = (w .place ≡ place.RemE k l u v (prev-of p) c) × (c < edge-pool)
-Stands used w (ConE k l u v c) = w .place ≡ place.ConE k l u v c
-Stands used w (Trial k l u v e h) = (w .place ≡ trial-place k l u v e (h .stand)) × Hunted used w h
+Stands used w (FindU adds k l c) = w .place ≡ place.AddEFindU (keys k l) c
+Stands used w (FindU rems k l c) = w .place ≡ place.RemEFindU (keys k l) c
+Stands used w (FindU cons k l c) = w .place ≡ place.ConEFindU (keys k l) c
+Stands used w (FindV adds k l u c) = w .place ≡ place.AddEFindV (keys k l) u c
+Stands used w (FindV rems k l u c) = w .place ≡ place.RemEFindV (keys k l) u c
+Stands used w (FindV cons k l u c) = w .place ≡ place.ConEFindV (keys k l) u c
+Stands used w (LookE true k l u v p c) = (w .place ≡ place.AddE (between k l u v) (prev-of p) c) × (c < edge-pool)
+Stands used w (LookE false k l u v p c) = (w .place ≡ place.RemE (between k l u v) (prev-of p) c) × (c < edge-pool)
+Stands used w (ConE k l u v c) = w .place ≡ place.ConE (between k l u v) c
+Stands used w (Trial k l u v e h) = (w .place ≡ trial-place (between k l u v) e (h .stand)) × Hunted used (w .reach) h
 
 -- the request's keys are not reserved: that is asked before anything else in a step
 abbrev pub Asked : Place → Type 0
-Asked p = key-refused (request-of p .code) (request-of p .k) (request-of p .l) ≡ false
+Asked p = key-refused (request-of p) ≡ false
+
+abbrev pub Allowed : ℕ → Pair → Type 0
+Allowed code pair = key-refused (asks-pair code pair) ≡ false
 
 pub record Shown (used : ℕ) (w : Worker) (s : Spot) : Type 0 where
   pub asked : Asked (w .place)

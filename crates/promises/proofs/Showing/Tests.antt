@@ -1,5 +1,5 @@
 -- The definitions nest tests where the machine joins them.
-use mathlib.Core.Bool.{Bool, true, false, cond, not, _&&_, _||_}
+use mathlib.Core.Bool.{Bool, true, false, cond, _&&_, _||_}
 use mathlib.Core.Path.{_≡_, refl}
 use Rattle.catalogue.specs.Tests.{pick}
 use Rattle.laws.proofs.Picks.{clash}
@@ -18,10 +18,6 @@ module _ {A : Type 0} where
   pick-and true true x y = refl
   pick-and true false x y = refl
   pick-and false b x y = refl
-
-  pub pick-unless : (a b : Bool) (x y : A) → pick a x (cond b y x) ≡ cond (not a && b) y x
-  pick-unless true b x y = refl
-  pick-unless false b x y = refl
 
 -- of two tests joined, neither holds
 pub neither : (a b : Bool) → pick a true b ≡ false → (a ≡ false) × (b ≡ false)

@@ -3,7 +3,7 @@ use Prim.Native.Nat.{ℕ}
 use mathlib.Core.Path.{_≡_, refl, ap}
 use mathlib.Core.Logic.{_⊎_, inl, inr}
 use Rattle.catalogue.specs.Tests.{upd}
-use Rattle.row.specs.Base.{upd-at, upd-other, same?}
+use Rattle.row.proofs.Base.{upd-at, upd-other, same?}
 
 module _ {A : Type 0} (next : ℕ → ℕ) (tag : ℕ → A) (x : ℕ) where
   -- n and t are written at x; `to` and `tags` are what is read then

@@ -1,4 +1,5 @@
--- The three writes on vertices: a mark, a link past a vertex, and a new vertex. Each shows the world that `row` makes of it.
+-- The three writes on vertices: a mark, a link past a vertex, and a new vertex.
+-- Each shows the world that `row` makes of it.
 use Prim.Native.Nat.{ℕ, suc, _+_, _≤_, _<_}
 use mathlib.Core.Bool.{Bool, true, false}
 use mathlib.Core.Path.{_≡_, _∙_}
@@ -14,9 +15,9 @@ use Rattle.catalogue.specs.declared.links.EdgeLink.the-variants as edge
 use Rattle.catalogue.specs.declared.writes.Write.the-variants.{VertexLink, NewVertex}
 use Rattle.laws.proofs.Leads.{vertex-next-in}
 use Rattle.laws.proofs.Picks.{clash}
-use Rattle.row.specs.Base.{upd-same, upd-other, same?}
+use Rattle.row.proofs.Base.{upd-same, upd-other, same?}
 use Rattle.row.specs.Lists.Edges.{head}
-use Rattle.row.specs.Graphs.Good.{WGood}
+use Rattle.row.proofs.Graphs.Good.{WGood}
 use Rattle.row.specs.Lists.Store.{Cat, insert, unlink, mark, Inner}
 use Rattle.row.specs.Machine.World.{World}
 use Rattle.promises.proofs.Showing.Shows.{Shows, vertex-tag-of}
@@ -34,8 +35,8 @@ module _ (C : Catalogue) (W : World) (s : Shows C W) (x : ℕ) (inner : x ≡ 1 
   unfolding commit
   links y h d =
       elim (leads y) [
-        | inl q ↦ rw (q .1, q .2, q .0) (vertex-there (C .vlink) x n b inner in-pool)
-        | inr q ↦ rw (q .1, q .2) (vertex-else (C .vlink) x (link n (vertex-tag-of b)) y (q .0) ∙ s .vlinks y h d)
+        | inl q ↦ rw (q .1, q .2, q .0) (vertex-there (C .vertices .link) x n b inner in-pool)
+        | inr q ↦ rw (q .1, q .2) (vertex-else (C .vertices .link) x (link n (vertex-tag-of b)) y (q .0) ∙ s .vlinks y h d)
       ]
 
   shows-link : Shows (commit C (VertexLink x n (vertex-tag-of b))) (with-v W (record { next = next; marked = mark; key = W .v .key; used = W .v .used }))
@@ -55,13 +56,13 @@ module _ (C : Catalogue) (W : World) (s : Shows C W) (x : ℕ) (inner : x ≡ 1 
 
 module _ (C : Catalogue) (W : World) (s : Shows C W) where
   next-in-pool : (x : ℕ) → x < W .v .used → (x ≡ 1 → ⊥) → W .v .next x < 256
-  next-in-pool x h d = vertex-next-in (C .vlink) x (W .v .next x) (vertex-tag-of (W .v .marked x)) (s .vlinks x h d)
+  next-in-pool x h d = vertex-next-in (C .vertices .link) x (W .v .next x) (vertex-tag-of (W .v .marked x)) (s .vlinks x h d)
 
   pub shows-mark : (x : ℕ) → x < W .v .used → (x ≡ 1 → ⊥) → Shows (commit C (VertexLink x (W .v .next x) marked)) (with-v W (mark (W .v) x))
   shows-mark x h d =
       shows-link C W s x d (W .v .next x) (next-in-pool x h d) true (W .v .next) (upd (W .v .marked) x true) (another-tag (W .v .next) (W .v .marked) x true)
 
-  -- p passes over its next c, which is not the tail; p stays unmarked
+  -- p passes over its next c, which is not the tail; p is still unmarked
   pub shows-unlink : (p c : ℕ) → Inner (W .v) p → W .v .next p ≡ c → c < W .v .used → (c ≡ 1 → ⊥)
       → Shows (commit C (VertexLink p (W .v .next c) plain)) (with-v W (unlink (W .v) p))
   shows-unlink p c i lead h d =
@@ -70,7 +71,7 @@ module _ (C : Catalogue) (W : World) (s : Shows C W) where
       (shows-link C W s p (i .inner) n (rw lead (next-in-pool c h d)) false (upd (W .v .next) p n) (W .v .marked)
       (rw (i .plain) at (another-next (W .v .next) (W .v .marked) p n)))
 
-  -- A vertex not yet handed out has no edges: whoever owns one is handed out.
+  -- A vertex not yet handed out has no edges: the owner of one is handed out.
   unborn : WGood W → W .e .first (W .v .used) ≡ 0
   unborn g =
       elim (g .esound .sorted (W .v .used) .follows head tt (λ e. clash (cc)) .inside) [
@@ -78,7 +79,7 @@ module _ (C : Catalogue) (W : World) (s : Shows C W) where
         | inr o ↦ let z = g .ends (W .e .first (W .v .used)) (o .low) (o .high) .source-high in absurd (omega (arith, o .own))
       ]
 
-  -- A new vertex behind p. Its first link leads to the edge tail.
+  -- A new vertex after p. Its first link leads to the edge tail.
   module _ (g : WGood W) (room : W .v .used < 256) (p : ℕ) (i : Inner (W .v) p) (k : ℤ) where
     abbrev new : ℕ
     new = W .v .used
@@ -99,20 +100,20 @@ module _ (C : Catalogue) (W : World) (s : Shows C W) where
     unfolding commit
     insert-keys x h =
         elim (same? x new) [
-          | inl q ↦ rw (q, upd-same (W .v .key) new k) (vkey-there (C .vkey) new k new-inner)
-          | inr n ↦ rw (upd-other (W .v .key) new k x n) (vkey-else (C .vkey) new k x n ∙ s .vkeys x (omega arith))
+          | inl q ↦ rw (q, upd-same (W .v .key) new k) (vkey-there (C .vertices .key) new k new-inner)
+          | inr n ↦ rw (upd-other (W .v .key) new k x n) (vkey-else (C .vertices .key) new k x n ∙ s .vkeys x (omega arith))
         ]
 
     insert-firsts : (x : ℕ) → 2 ≤ x → x < suc new → first-link D x ≡ edge.At (X .e .first x) plain
     unfolding commit
     insert-firsts x l h =
         elim (same? x new) [
-          | inl q ↦ rw (q, unborn g) (first-there (C .first) new 0 (omega arith))
-          | inr n ↦ first-else (C .first) new (link 0 plain) x n ∙ s .firsts x l (omega arith)
+          | inl q ↦ rw (q, unborn g) (first-there (C .vertices .first) new 0 (omega arith))
+          | inr n ↦ first-else (C .vertices .first) new (link 0 plain) x n ∙ s .firsts x l (omega arith)
         ]
 
     abbrev filled : ℕ → ℕ
-    filled = upd (C .vlink) new (link (W .v .next p) plain)
+    filled = upd (C .vertices .link) new (link (W .v .next p) plain)
 
     abbrev next-filled : ℕ → ℕ
     next-filled = upd (W .v .next) new (W .v .next p)
@@ -129,10 +130,10 @@ module _ (C : Catalogue) (W : World) (s : Shows C W) where
               (vertex-else filled p (link new plain) x n ∙ elim (same? x new) [
                 | inl q ↦
                     rw (q, upd-same (W .v .next) new (W .v .next p), upd-same (W .v .marked) new false)
-                    (vertex-there (C .vlink) new (W .v .next p) false new-inner (next-in-pool p (i .high) (i .inner)))
+                    (vertex-there (C .vertices .link) new (W .v .next p) false new-inner (next-in-pool p (i .high) (i .inner)))
                 | inr m ↦
                     rw (upd-other (W .v .next) new (W .v .next p) x m, upd-other (W .v .marked) new false x m)
-                    (vertex-else (C .vlink) new (link (W .v .next p) plain) x m ∙ s .vlinks x (omega arith) d)
+                    (vertex-else (C .vertices .link) new (link (W .v .next p) plain) x m ∙ s .vlinks x (omega arith) d)
               ])
         ]
 
@@ -151,5 +152,5 @@ module _ (C : Catalogue) (W : World) (s : Shows C W) where
       targets = s .targets;
     }
 
-    pub shows-insert : (c : ℕ) → W .v .next p ≡ c → Shows (commit C (NewVertex (2 + C .vertices-out) k c p)) X
+    pub shows-insert : (c : ℕ) → W .v .next p ≡ c → Shows (commit C (NewVertex (2 + C .counts .vertices) k c p)) X
     shows-insert c e = rw (← e, ← s .vertices) counted

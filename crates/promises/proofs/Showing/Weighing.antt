@@ -7,7 +7,7 @@ use mathlib.Core.Path.{_≡_, refl, ap₂}
 use native.Mathlib.Omega.{arith}
 use lib.ListN.{length}
 use Rattle.catalogue.specs.Tests.{pick, upd}
-use Rattle.row.specs.Base.{upd-at, upd-other, same?}
+use Rattle.row.proofs.Base.{upd-at, upd-other, same?}
 use Rattle.promises.specs.Bounds.{total}
 
 unfoldable pub weigh : (ℕ → ℕ) → (ℕ → Bool) → ℕ → ℕ

@@ -11,8 +11,8 @@ use Rattle.catalogue.specs.Catalogue.{vertex-key-in, vertex-link-in, first-link
 use Rattle.catalogue.specs.declared.links.VertexLink.the-variants as vertex
 use Rattle.catalogue.specs.declared.links.EdgeLink.the-variants as edge
 use Rattle.catalogue.specs.declared.links.Target.the-variants as target
-use Rattle.resting.specs.Links.{link-apart}
-use Rattle.row.specs.Base.{upd-same, upd-other}
+use Rattle.resting.proofs.Links.{link-apart}
+use Rattle.row.proofs.Base.{upd-same, upd-other}
 use Rattle.row.specs.Lists.Edges.{Tag, marked, transit, added}
 use Rattle.promises.proofs.Showing.Shows.{vertex-tag-of, edge-tag-of}
 

@@ -1,5 +1,6 @@
--- One step of ConE among the edges of u is one move of the machine of `row`. The machine asks for the marks of u and v first, the definition last; both
--- reply 1 only if all is as asked, and else 8.
+-- One step of ConE among the edges of u is one move of the machine of `row`.
+-- The machine asks for the marks of u and v first, the definition last;
+-- both reply 1 only if all is as asked, and else 8.
 use Prim.Native.Nat.{ℕ, _≤_, _<_}
 use mathlib.Core.Bool.{Bool, true, false, cond, _&&_, _||_}
 use mathlib.Core.Path.{_≡_, refl, _∙_}
@@ -21,18 +22,19 @@ use Rattle.catalogue.specs.declared.steps.Decision.the-variants as decision
 use Rattle.catalogue.specs.declared.workers.Place.the-variants as place
 use Rattle.catalogue.specs.declared.workers.Worker.{Worker}
 use Rattle.catalogue.specs.declared.writes.Write.the-variants.{Nothing}
-use Rattle.row.specs.Base.{ltZ-true}
-use Rattle.row.specs.Steps.Spots.{Pair}
+use Rattle.row.proofs.Base.{ltZ-true}
+use Rattle.row.proofs.Steps.Spots.{Pair}
 use Rattle.row.specs.Lists.Edges.{Tag, at, Mine}
 use Rattle.row.specs.Lists.Edges
-use Rattle.row.specs.Graphs.Good.{WGood}
+use Rattle.row.proofs.Graphs.Good.{WGood}
 use Rattle.laws.proofs.Rules.{eqZ-eq}
 use Rattle.row.specs.Machine.World.{World, ConE, goes, says, is-added}
 use Rattle.row.specs.Machine.Moves.{move}
-use Rattle.promises.proofs.Showing.Shows.{Shows, Asked, Follows, edge-tag-of}
+use Rattle.promises.proofs.Showing.Shows.{Shows, Asked, Follows, edge-tag-of, between}
 use Rattle.promises.proofs.Showing.Marks.{both-seen}
 use Rattle.promises.proofs.Showing.Pools.{edges-in-pool, series-of}
-use Rattle.promises.proofs.Showing.Tail.{no-tail, below-tail}
+use Rattle.row.proofs.Lists.LinkLaws.{no-tail}
+use Rattle.row.proofs.Steps.EdgeMeans.{below-tail}
 use Rattle.promises.proofs.Steps.Deciding.{FollowsAt, decides, walks-on, says-so}
 
 module _ (C : Catalogue) (W : World) (s : Shows C W) (g : WGood W) (k l : ℤ) (u v c : ℕ) (pr : Pair W k l u v) (mine : Mine (W .e) u (at c)) where
@@ -57,7 +59,7 @@ module _ (C : Catalogue) (W : World) (s : Shows C W) (g : WGood W) (k l : ℤ) (
   abbrev number : Bool → Bool → ℕ
   number d x = cond d 8 (cond x 1 8)
 
-  settles : 1 ≤ c → settle-contains-edge C u v c ≡ decision.Reply (number dead leads) Nothing
+  settles : 1 ≤ c → settle-contains-edge C (between k l u v) c ≡ decision.Reply (number dead leads) Nothing
   unfolding settle-contains-edge
   settles low =
       rw (s .elinks c low handed, s .targets c low handed, both-seen C W s u v (series-of (pr .source)) (series-of (pr .goal)))
@@ -85,17 +87,17 @@ module _ (C : Catalogue) (W : World) (s : Shows C W) (g : WGood W) (k l : ℤ) (
     says-number false true e = says-so C W s w 1 e
     says-number false false e = says-so C W s w 8 e
 
-    contains : Asked (place.ConE k l u v c) → Decides (step-contains-edge C k l u v c) → Follows C w (move W (ConE k l u v c))
+    contains : Asked (place.ConE (between k l u v) c) → Decides (step-contains-edge C (between k l u v) c) → Follows C w (move W (ConE k l u v c))
     unfolding step-contains-edge
     contains a d = by (ltZ (W .e .key c) l) (eqZ (W .e .key c) l) refl refl (rw (lt-ltb c 2048 in-pool, s .ekeys c handed) at d)
       where
         by : (b q : Bool) → ltZ (W .e .key c) l ≡ b → eqZ (W .e .key c) l ≡ q
             → Decides
-            (pick b (at-edge (edge-link C c) decision.Torn (λ next tag. decision.Going (place.ConE k l u v next) Nothing))
-            (pick q (settle-contains-edge C u v c) (decision.Reply 8 Nothing)))
+            (pick b (at-edge (edge-link C c) decision.Torn (λ next tag. decision.Going (place.ConE (between k l u v) next) Nothing))
+            (pick q (settle-contains-edge C (between k l u v) c) (decision.Reply 8 Nothing)))
             → Follows C w (cond b (goes W (ConE k l u v (W .e .next c))) (cond dead (says W 8) (cond (q && leads) (says W 1) (says W 8))))
         by true q e f d =
-            walks-on C W s w (place.ConE k l u v (W .e .next c)) (ConE k l u v (W .e .next c))
+            walks-on C W s w (place.ConE (between k l u v) (W .e .next c)) (ConE k l u v (W .e .next c))
             (d ∙ rw (s .elinks c (inner (inl (ltZ-true (W .e .key c) l e))) handed)) a refl
         by false true e f d = says-number dead leads (d ∙ settles (inner (inr (eqZ-eq (W .e .key c) l f))))
         by false false e f d = says-number dead false (d ∙ eight dead)
@@ -106,5 +108,5 @@ module _ (C : Catalogue) (W : World) (s : Shows C W) (g : WGood W) (k l : ℤ) (
 
 pub con-e-follows : (k l : ℤ) (u v c : ℕ) → FollowsAt (ConE k l u v c)
 con-e-follows k l u v c C W s g w o n =
-    let d = decides C w (place.ConE k l u v c) (n .stands) (n .asked) in
+    let d = decides C w (place.ConE (between k l u v) c) (n .stands) (n .asked) in
     contains C W s g k l u v c (o .0) (o .1) w (d .0) (d .1)

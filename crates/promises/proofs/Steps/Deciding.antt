@@ -1,11 +1,11 @@
--- A step at a known place decides by that place, and a decision to go on, or to reply, is a move of the machine.
+-- A step at a known place decides by that place; a decision to go on, or to reply, is a move of the machine.
 use Prim.Native.Nat.{ℕ}
 use mathlib.Core.Bool.{Bool, true, false, cond}
 use mathlib.Core.Path.{_≡_, refl}
 use Rattle.catalogue.specs.Tests.{eqZ}
 use Rattle.catalogue.specs.Numbers.{reserved}
 use Rattle.catalogue.specs.Catalogue.{Catalogue}
-use Rattle.catalogue.specs.Workers.{idle, bare, front-of}
+use Rattle.catalogue.specs.Workers.{idle, bare, ahead}
 use Rattle.catalogue.specs.Writes.{commit}
 use Rattle.catalogue.specs.Steps.Places.{key-refused}
 use Rattle.catalogue.specs.Steps.Decide.{decide, decide-at, step-at}
@@ -15,8 +15,8 @@ use Rattle.catalogue.specs.declared.workers.Place.{Place}
 use Rattle.catalogue.specs.declared.workers.Worker.{Worker}
 use Rattle.catalogue.specs.declared.writes.Write.{Write}
 use Rattle.catalogue.specs.declared.writes.Write.the-variants.{Nothing}
-use Rattle.row.specs.Steps.Spots.{Ok}
-use Rattle.row.specs.Graphs.Good.{WGood}
+use Rattle.row.proofs.Steps.Spots.{Ok}
+use Rattle.row.proofs.Graphs.Good.{WGood}
 use Rattle.row.specs.Machine.World.{World, Spot, Rest, Next, goes, says}
 use Rattle.row.specs.Machine.Moves.{move}
 use Rattle.promises.proofs.Showing.Shows.{Shows, Stands, Asked, Shown, Follows}
@@ -27,7 +27,7 @@ FollowsAt spot = (C : Catalogue) (W : World) → Shows C W → WGood W → (w : 
 
 -- what a worker decides at a place with allowed keys
 abbrev pub step-of : Catalogue → Worker → Place → Decision
-step-of C w pl = step-at C pl (w .met) (front-of w) (w .front) (w .back)
+step-of C w pl = step-at C pl (ahead (w .reach))
 
 pub decides : (C : Catalogue) (w : Worker) (pl : Place) → w .place ≡ pl → Asked (w .place) → Asked pl × (decide C w ≡ step-of C w pl)
 unfolding decide-at
@@ -43,8 +43,8 @@ module _ (C : Catalogue) (w : Worker) (X : World) (write : Write) (shows : Shows
   goes-on pl spot d a t =
       record { decision = decision.Going pl write; decides = d; sure = tt; world = shows; spot = record { asked = a; stands = t }; reply = refl }
 
-  pub ends : (r : ℕ) → decide C w ≡ decision.Reply r write → Follows C w (says X r)
-  ends r d =
+  pub says-with : (r : ℕ) → decide C w ≡ decision.Reply r write → Follows C w (says X r)
+  says-with r d =
       record { decision = decision.Reply r write; decides = d; sure = tt; world = shows; spot = rests (X .v .used); reply = refl }
 
 -- Where nothing is written, nothing changes.
@@ -57,7 +57,7 @@ module _ (C : Catalogue) (W : World) (s : Shows C W) (w : Worker) where
   walks-on = goes-on C w W Nothing (unwritten C W s)
 
   pub says-so : (r : ℕ) → decide C w ≡ decision.Reply r Nothing → Follows C w (says W r)
-  says-so = ends C w W Nothing (unwritten C W s)
+  says-so = says-with C w W Nothing (unwritten C W s)
 
 -- a decision by the machine's own test follows the machine where it does on both sides
 pub follows-cond : (C : Catalogue) (w : Worker) (b : Bool) (d f : Decision) (n m : Next) → decide C w ≡ cond b d f

@@ -12,26 +12,28 @@ use Rattle.catalogue.specs.Tests.{pick, eqZ}
 use Rattle.catalogue.specs.Numbers.{plain}
 use Rattle.catalogue.specs.Catalogue.{Catalogue, vertex-link, edge-target, at-mark, at-target}
 use Rattle.catalogue.specs.Steps.Both.{at-both}
-use Rattle.catalogue.specs.Steps.Edges.{link-behind, see-key, see-edge, see-behind, look-at-edge}
+use Rattle.catalogue.specs.Steps.Edges.{link-behind, see-key, see-edge, see-behind, look-at-edge, landed}
 use Rattle.catalogue.specs.declared.links.EdgeLink.the-variants as edge
 use Rattle.catalogue.specs.declared.steps.BothSeen.the-variants as both
 use Rattle.catalogue.specs.declared.steps.EdgeSeen.{EdgeSeen}
 use Rattle.catalogue.specs.declared.steps.EdgeSeen.the-variants as seen
-use Rattle.row.specs.Base.{ltZ-true}
+use Rattle.row.proofs.Base.{ltZ-true}
 use Rattle.laws.proofs.Rules.{eqZ-eq, not-true-false}
-use Rattle.row.specs.Steps.VertexDeeds.{Legal}
+use Rattle.row.proofs.Steps.VertexDeeds.{Legal}
 use Rattle.row.specs.Lists.Edges.{Tag, marked, transit, added, Prev, head, at, is-marked, tag-at, link, Mine}
 use Rattle.row.specs.Machine.World.{World, is-added}
 use Rattle.row.specs.Machine.Moves.{ESeen, e-dead, e-again, e-passes, e-marks, e-onward, e-settle, elook}
-use Rattle.row.specs.Graphs.Good.{WGood}
-use Rattle.row.specs.Steps.Spots.{EAims}
-use Rattle.promises.proofs.Showing.Shows.{Shows, Series, prev-of, edge-tag-of}
+use Rattle.row.proofs.Graphs.Good.{WGood}
+use Rattle.row.proofs.Steps.Spots.{EAims}
+use Rattle.promises.proofs.Showing.Shows.{Shows, Series, prev-of, edge-tag-of, between}
 use Rattle.promises.proofs.Showing.Marks.{edge-is-marked, mark-seen, both-seen}
 use Rattle.promises.proofs.Showing.Pools.{target-series}
-use Rattle.promises.proofs.Showing.Tail.{no-tail, below-tail}
+use Rattle.row.proofs.Lists.LinkLaws.{no-tail}
+use Rattle.row.proofs.Steps.EdgeMeans.{below-tail}
 use Rattle.promises.proofs.Showing.EdgeLinks.{Out, Behind, tag-behind}
 
--- What the definitions see, and the machine, with what is then known of c. Where the keys differ c may be the tail, which has no tag.
+-- What the definitions see, and the machine, with what is then known of c.
+-- Where the keys differ c may be the tail, which has no tag.
 pub data Sees (W : World) (l : ℤ) (u : ℕ) (p : Prev) (c : ℕ) : EdgeSeen → ESeen → Type 0 where
   dead : Sees W l u p c seen.Dead e-dead
   again : Sees W l u p c seen.Again e-again
@@ -39,8 +41,9 @@ pub data Sees (W : World) (l : ℤ) (u : ℕ) (p : Prev) (c : ℕ) : EdgeSeen �
   marks : Out (W .e .used) c → Sees W l u p c (seen.Marks (W .e .next c)) e-marks
   onward : Out (W .e .used) c → Sees W l u p c (seen.Onward (W .e .next c)) e-onward
   equal : link (W .e) u p ≡ c → Out (W .e .used) c → eqZ (W .e .key c) l ≡ true → (t : Tag) → W .e .tag c ≡ t → is-marked t ≡ false
-      → Sees W l u p c (seen.Settles (tag-behind (W .e .tag) p) (W .e .next c) (edge-tag-of t) true) e-settle
-  other : link (W .e) u p ≡ c → eqZ (W .e .key c) l ≡ false → (next tag : ℕ) → Sees W l u p c (seen.Settles (tag-behind (W .e .tag) p) next tag false) e-settle
+      → Sees W l u p c (seen.Settles (landed (tag-behind (W .e .tag) p) (W .e .next c) (edge-tag-of t) true)) e-settle
+  other : link (W .e) u p ≡ c → eqZ (W .e .key c) l ≡ false → (next tag : ℕ)
+      → Sees W l u p c (seen.Settles (landed (tag-behind (W .e .tag) p) next tag false)) e-settle
 
 -- the machine's look at c, for a p that leads there
 abbrev looks-there : World → ℤ → ℕ → ESeen
@@ -59,19 +62,19 @@ pub aims-behind : (W : World) (u : ℕ) (l : ℤ) (p : Prev) → EAims (W .e) u 
 aims-behind W u l head a = tt
 aims-behind W u l (at p) a = let o = no-tail (W .e) u p (a .inside) (λ z. a .inner (ap at z)) in (o .low, o .high)
 
--- the link behind p
+-- p's link
 behind-seen : (C : Catalogue) (W : World) → Shows C W → (u : ℕ) (p : Prev) → Series (W .v .used) u → Behind (W .e .used) p
     → link-behind C u (prev-of p) ≡ edge.At (link (W .e) u p) (tag-behind (W .e .tag) p)
 behind-seen C W s u head o b = s .firsts u (o .low) (o .high)
 behind-seen C W s u (at p) o b = s .elinks p (b .0) (b .1)
 
-module _ (C : Catalogue) (W : World) (s : Shows C W) (g : WGood W) (l : ℤ) (u v : ℕ) (p : Prev) (c : ℕ) (legal : Legal l) (aims : EAims (W .e) u l p) where
+module _ (C : Catalogue) (W : World) (s : Shows C W) (g : WGood W) (l : ℤ) (u : ℕ) (p : Prev) (c : ℕ) (legal : Legal l) (aims : EAims (W .e) u l p) where
   abbrev kept : ℕ
   kept = tag-behind (W .e .tag) p
 
   -- (e), (f): c's key, lower or equal
   abbrev by-key : ℕ → ℕ → Bool → Bool → EdgeSeen
-  by-key next tag lower same = pick lower (seen.Onward next) (pick same (seen.Settles kept next tag true) (seen.Settles kept next tag false))
+  by-key next tag lower same = pick lower (seen.Onward next) (pick same (seen.Settles (landed kept next tag true)) (seen.Settles (landed kept next tag false)))
 
   key-seen : (next tag : ℕ) → c < W .e .used → see-key C l c kept next tag ≡ by-key next tag (ltZ (W .e .key c) l) (eqZ (W .e .key c) l)
   unfolding see-key
@@ -130,8 +133,8 @@ module _ (C : Catalogue) (W : World) (s : Shows C W) (g : WGood W) (l : ℤ) (u 
       by (inr o) = tag-sees lead (o .low, o .high)
 
   -- (b): p's link; (a): u and v
-  module _ (fits : c < 2048) (source : Series (W .v .used) u) (goal : Series (W .v .used) v) where
-    pub sees : Sees W l u p c (look-at-edge C l u v (prev-of p) c) (elook W l u v p c)
+  module _ (k : ℤ) (v : ℕ) (fits : c < 2048) (source : Series (W .v .used) u) (goal : Series (W .v .used) v) where
+    pub sees : Sees W l u p c (look-at-edge C (between k l u v) (prev-of p) c) (elook W l u v p c)
     unfolding look-at-edge see-behind
     sees =
         rw (both-seen C W s u v source goal, behind-seen C W s u p source (aims-behind W u l p aims), behind-marked (W .e .tag) p, lt-ltb c 2048 fits)

@@ -2,9 +2,8 @@
 use Prim.Native.Nat.{ℕ, _<_}
 use mathlib.Core.Bool.{true, false}
 use mathlib.Core.Path.{_≡_, refl, _∙_}
-use lib.IntN.{ℤ}
 use Rattle.catalogue.specs.Catalogue.{Catalogue}
-use Rattle.catalogue.specs.Steps.Places.{key-refused, find-u-place, find-v-place, edge-place, edges-place}
+use Rattle.catalogue.specs.Steps.Places.{find-u-place, find-v-place, edge-place, edges-place}
 use Rattle.catalogue.specs.Steps.Finding.{look-for, not-found, found-u, decide-find-u, step-find-u, found-v, decide-find-v, step-find-v}
 use Rattle.catalogue.specs.Steps.Decide.{decide}
 use Rattle.catalogue.specs.declared.steps.Decision.{Decision}
@@ -16,15 +15,16 @@ use Rattle.catalogue.specs.declared.workers.Prev.the-variants as prev
 use Rattle.catalogue.specs.declared.workers.Worker.{Worker}
 use Rattle.catalogue.specs.declared.writes.Write.the-variants.{Nothing}
 use Rattle.row.specs.Lists.Edges.{head}
-use Rattle.row.specs.Graphs.Good.{WGood}
-use Rattle.row.specs.Graphs.Graph.{IsV}
-use Rattle.row.specs.Machine.World.{World, Kind, adds, rems, cons, FindU, FindV, LookE, ConE, goes, says}
+use Rattle.row.proofs.Graphs.Good.{WGood}
+use Rattle.row.proofs.Graphs.Graph.{IsV}
+use Rattle.row.specs.Machine.World.{World, Kind, adds, rems, cons, goes, says, FindU, FindV, LookE, ConE}
 use Rattle.row.specs.Machine.Moves.{VSeen, lower, found, missing, vlook, lost, look-at, find-u, find-v}
-use Rattle.promises.proofs.Showing.Shows.{Shows, Shown, Follows}
+use Rattle.promises.proofs.Showing.Shows.{Shows, Shown, Follows, Allowed, keys, between}
 use Rattle.promises.proofs.Showing.EdgeLinks.{first-fits}
 use Rattle.promises.proofs.Showing.Pools.{series-of}
 use Rattle.promises.proofs.Steps.Deciding.{FollowsAt, decides, walks-on, says-so}
 use Rattle.promises.proofs.Steps.VertexLooks.{head-reads, Sought, seeks-on, seeks-found, seeks-missing, sought}
+use lib.IntN.{ℤ}
 
 -- the number of a request on edges
 abbrev code-of : Kind → ℕ
@@ -36,10 +36,6 @@ module _ (C : Catalogue) (W : World) (s : Shows C W) (g : WGood W) (w : Worker) 
   abbrev Decides : Decision → Type 0
   Decides d = decide C w ≡ d
 
-  -- the request's keys are allowed
-  abbrev Allowed : Kind → Type 0
-  Allowed q = key-refused (code-of q) k l ≡ false
-
   not-there : (q : Kind) → Decides (decision.Reply (not-found (code-of q)) Nothing) → Follows C w (says W (lost q))
   unfolding not-found
   not-there adds d = says-so C W s w 3 d
@@ -48,24 +44,24 @@ module _ (C : Catalogue) (W : World) (s : Shows C W) (g : WGood W) (w : Worker) 
 
   -- ---- u
 
-  stands-u : (q : Kind) (c : ℕ) → Shown (W .v .used) w (FindU q k l c) → Allowed q × Decides (step-find-u C (code-of q) k l c)
-  stands-u adds c n = decides C w (place.AddEFindU k l c) (n .stands) (n .asked)
-  stands-u rems c n = decides C w (place.RemEFindU k l c) (n .stands) (n .asked)
-  stands-u cons c n = decides C w (place.ConEFindU k l c) (n .stands) (n .asked)
+  stands-u : (q : Kind) (c : ℕ) → Shown (W .v .used) w (FindU q k l c) → Allowed (code-of q) (keys k l) × Decides (step-find-u C (code-of q) (keys k l) c)
+  stands-u adds c n = decides C w (place.AddEFindU (keys k l) c) (n .stands) (n .asked)
+  stands-u rems c n = decides C w (place.RemEFindU (keys k l) c) (n .stands) (n .asked)
+  stands-u cons c n = decides C w (place.ConEFindU (keys k l) c) (n .stands) (n .asked)
 
-  to-u : (q : Kind) (c : ℕ) → Allowed q → Decides (decision.Going (find-u-place (code-of q) k l c) Nothing) → Follows C w (goes W (FindU q k l c))
+  to-u : (q : Kind) (c : ℕ) → Allowed (code-of q) (keys k l) → Decides (decision.Going (find-u-place (code-of q) (keys k l) c) Nothing) → Follows C w (goes W (FindU q k l c))
   unfolding find-u-place
-  to-u adds c a d = walks-on C W s w (place.AddEFindU k l c) (FindU adds k l c) d a refl
-  to-u rems c a d = walks-on C W s w (place.RemEFindU k l c) (FindU rems k l c) d a refl
-  to-u cons c a d = walks-on C W s w (place.ConEFindU k l c) (FindU cons k l c) d a refl
+  to-u adds c a d = walks-on C W s w (place.AddEFindU (keys k l) c) (FindU adds k l c) d a refl
+  to-u rems c a d = walks-on C W s w (place.RemEFindU (keys k l) c) (FindU rems k l c) d a refl
+  to-u cons c a d = walks-on C W s w (place.ConEFindU (keys k l) c) (FindU cons k l c) d a refl
 
-  to-v : (q : Kind) (u c : ℕ) → Allowed q → Decides (decision.Going (find-v-place (code-of q) k l u c) Nothing) → Follows C w (goes W (FindV q k l u c))
+  to-v : (q : Kind) (u c : ℕ) → Allowed (code-of q) (keys k l) → Decides (decision.Going (find-v-place (code-of q) (keys k l) u c) Nothing) → Follows C w (goes W (FindV q k l u c))
   unfolding find-v-place
-  to-v adds u c a d = walks-on C W s w (place.AddEFindV k l u c) (FindV adds k l u c) d a refl
-  to-v rems u c a d = walks-on C W s w (place.RemEFindV k l u c) (FindV rems k l u c) d a refl
-  to-v cons u c a d = walks-on C W s w (place.ConEFindV k l u c) (FindV cons k l u c) d a refl
+  to-v adds u c a d = walks-on C W s w (place.AddEFindV (keys k l) u c) (FindV adds k l u c) d a refl
+  to-v rems u c a d = walks-on C W s w (place.RemEFindV (keys k l) u c) (FindV rems k l u c) d a refl
+  to-v cons u c a d = walks-on C W s w (place.ConEFindV (keys k l) u c) (FindV cons k l u c) d a refl
 
-  finds-u : (q : Kind) (c : ℕ) (z : VertexFound) (t : VSeen) → Sought (W .v) k c z t → Allowed q → Decides (decide-find-u C (code-of q) k l c z)
+  finds-u : (q : Kind) (c : ℕ) (z : VertexFound) (t : VSeen) → Sought (W .v) k c z t → Allowed (code-of q) (keys k l) → Decides (decide-find-u C (code-of q) (keys k l) c z)
       → Follows C w (find-u W q k l c t)
   unfolding found-u
   finds-u q c (finds.Onward n) lower seeks-on a d = to-u q (W .v .next c) a d
@@ -74,21 +70,21 @@ module _ (C : Catalogue) (W : World) (s : Shows C W) (g : WGood W) (w : Worker) 
 
   -- ---- v
 
-  stands-v : (q : Kind) (u c : ℕ) → Shown (W .v .used) w (FindV q k l u c) → Allowed q × Decides (step-find-v C (code-of q) k l u c)
-  stands-v adds u c n = decides C w (place.AddEFindV k l u c) (n .stands) (n .asked)
-  stands-v rems u c n = decides C w (place.RemEFindV k l u c) (n .stands) (n .asked)
-  stands-v cons u c n = decides C w (place.ConEFindV k l u c) (n .stands) (n .asked)
+  stands-v : (q : Kind) (u c : ℕ) → Shown (W .v .used) w (FindV q k l u c) → Allowed (code-of q) (keys k l) × Decides (step-find-v C (code-of q) (keys k l) u c)
+  stands-v adds u c n = decides C w (place.AddEFindV (keys k l) u c) (n .stands) (n .asked)
+  stands-v rems u c n = decides C w (place.RemEFindV (keys k l) u c) (n .stands) (n .asked)
+  stands-v cons u c n = decides C w (place.ConEFindV (keys k l) u c) (n .stands) (n .asked)
 
   -- u's first-edge link is whole, so the edge that it leads to lies in the pool
-  to-edges : (q : Kind) (u v : ℕ) → W .e .first u < 2048 → Allowed q → Decides (decision.Going (edges-place (code-of q) k l u v (W .e .first u)) Nothing)
+  to-edges : (q : Kind) (u v : ℕ) → W .e .first u < 2048 → Allowed (code-of q) (keys k l) → Decides (decision.Going (edges-place (code-of q) (between k l u v) (W .e .first u)) Nothing)
       → Follows C w (goes W (look-at W q k l u v))
   unfolding edges-place edge-place
-  to-edges adds u v h a d = walks-on C W s w (place.AddE k l u v prev.First (W .e .first u)) (LookE true k l u v head (W .e .first u)) d a (refl, h)
-  to-edges rems u v h a d = walks-on C W s w (place.RemE k l u v prev.First (W .e .first u)) (LookE false k l u v head (W .e .first u)) d a (refl, h)
-  to-edges cons u v h a d = walks-on C W s w (place.ConE k l u v (W .e .first u)) (ConE k l u v (W .e .first u)) d a refl
+  to-edges adds u v h a d = walks-on C W s w (place.AddE (between k l u v) prev.First (W .e .first u)) (LookE true k l u v head (W .e .first u)) d a (refl, h)
+  to-edges rems u v h a d = walks-on C W s w (place.RemE (between k l u v) prev.First (W .e .first u)) (LookE false k l u v head (W .e .first u)) d a (refl, h)
+  to-edges cons u v h a d = walks-on C W s w (place.ConE (between k l u v) (W .e .first u)) (ConE k l u v (W .e .first u)) d a refl
 
-  finds-v : (q : Kind) (u c : ℕ) (z : VertexFound) (t : VSeen) → IsV (W .v) k u → Sought (W .v) l c z t → Allowed q
-      → Decides (decide-find-v C (code-of q) k l u c z) → Follows C w (find-v W q k l u c t)
+  finds-v : (q : Kind) (u c : ℕ) (z : VertexFound) (t : VSeen) → IsV (W .v) k u → Sought (W .v) l c z t → Allowed (code-of q) (keys k l)
+      → Decides (decide-find-v C (code-of q) (keys k l) u c z) → Follows C w (find-v W q k l u c t)
   unfolding found-v
   finds-v q u c (finds.Onward n) lower i seeks-on a d = to-v q u (W .v .next c) a d
   finds-v q u c finds.Found found i seeks-found a d = to-edges q u c (first-fits C W s u (series-of i)) a (d ∙ rw (s .firsts u (i .low) (i .high)))

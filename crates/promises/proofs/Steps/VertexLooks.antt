@@ -19,8 +19,8 @@ use Rattle.catalogue.specs.declared.steps.VertexSeen.the-variants as seen
 use Rattle.catalogue.specs.declared.steps.VertexFound.{VertexFound}
 use Rattle.catalogue.specs.declared.steps.VertexFound.the-variants as finds
 use Rattle.laws.proofs.Picks.{clash}
-use Rattle.row.specs.Base.{same?, ltZ-true}
-use Rattle.row.specs.Steps.VertexDeeds.{Legal, Aims, not-tail}
+use Rattle.row.proofs.Base.{same?, ltZ-true}
+use Rattle.row.proofs.Steps.VertexDeeds.{Legal, Aims, not-tail}
 use Rattle.laws.proofs.Rules.{eqZ-eq}
 use Rattle.row.specs.Machine.Vertices.{Seen, again, passes, onward, settle, look}
 use Rattle.row.specs.Lists.Store.{Cat, Inner, Good}
@@ -42,7 +42,7 @@ pub data Looked (D : Cat) (k : ℤ) (p c : ℕ) : VertexSeen → Seen → Type 0
   sees-equal : c < D .used → (c ≡ 1 → ⊥) → eqZ (D .key c) k ≡ true → Looked D k p c (seen.Settles (D .next c) true) settle
   sees-above : (n : ℕ) → Inner D p → D .next p ≡ c → eqZ (D .key c) k ≡ false → Looked D k p c (seen.Settles n false) settle
 
--- what ConV, and whoever looks for u or v, sees
+-- what ConV, and a look for u or v, sees
 pub data Sought (D : Cat) (k : ℤ) (c : ℕ) : VertexFound → VSeen → Type 0 where
   seeks-on : Sought D k c (finds.Onward (D .next c)) lower
   seeks-found : Sought D k c finds.Found found

@@ -11,6 +11,7 @@ use lib.Signed.{ltZ}
 use Rattle.catalogue.specs.Tests.{eqZ}
 use Rattle.catalogue.specs.Numbers.{plain, marked, room}
 use Rattle.catalogue.specs.Catalogue.{Catalogue}
+use Rattle.catalogue.specs.Workers.{asks}
 use Rattle.catalogue.specs.Writes.{commit}
 use Rattle.catalogue.specs.Steps.Places.{key-refused, vertex-place}
 use Rattle.catalogue.specs.Steps.Vertices.{step-vertex, decide-vertex, start-again, look-at-vertex, settle-vertex, settle-add-vertex, settle-remove-vertex, new-vertex}
@@ -26,14 +27,14 @@ use Rattle.catalogue.specs.declared.workers.Place.the-variants as place
 use Rattle.catalogue.specs.declared.workers.Worker.{Worker}
 use Rattle.catalogue.specs.declared.writes.Write.{Write}
 use Rattle.catalogue.specs.declared.writes.Write.the-variants.{Nothing, VertexLink, NewVertex}
-use Rattle.row.specs.Base.{lt-or}
-use Rattle.row.specs.Graphs.Good.{WGood}
+use Rattle.row.proofs.Base.{lt-or}
+use Rattle.row.proofs.Graphs.Good.{WGood}
 use Rattle.row.specs.Machine.Vertices.{Place, Idle, AddV, RemV, ConV, Out, going, replies, Seen, again, passes, onward, settle, look, add, rem, step}
 use Rattle.row.specs.Lists.Store.{Cat, insert, unlink, mark, Inner}
 use Rattle.row.specs.Machine.World.{World, Vert, goes}
 use Rattle.row.specs.Machine.Moves.{vmove, VSeen, lower, found, missing, vlook}
 use Rattle.promises.proofs.Showing.Shows.{Shows, Follows}
-use Rattle.promises.proofs.Steps.Deciding.{FollowsAt, decides, goes-on, ends, unwritten, walks-on, says-so}
+use Rattle.promises.proofs.Steps.Deciding.{FollowsAt, decides, goes-on, says-with, unwritten, walks-on, says-so}
 use Rattle.promises.proofs.Steps.VertexLooks.{Looked, sees-again, sees-gone, sees-lower, sees-equal, sees-above, looked}
 use Rattle.promises.proofs.Steps.VertexLooks.{head-reads, Sought, seeks-on, seeks-found, seeks-missing, sought}
 use Rattle.promises.proofs.Showing.Pools.{room-left, room-full}
@@ -57,7 +58,7 @@ module _ (C : Catalogue) (W : World) (s : Shows C W) (g : WGood W) (w : Worker) 
 
   -- the request's key is allowed
   abbrev Allowed : ℕ → Type 0
-  Allowed code = key-refused code k (pos 0) ≡ false
+  Allowed code = key-refused (asks code k (pos 0)) ≡ false
 
   -- to another look
   looks-on : (b : Bool) → Allowed (vertex-code b) → (X : World) (write : Write) → Shows (commit C write) X → (p c : ℕ)
@@ -77,17 +78,17 @@ module _ (C : Catalogue) (W : World) (s : Shows C W) (g : WGood W) (w : Worker) 
     passes-over b a i e h x d = looks-on b a (with-v W (unlink D p)) (VertexLink p (D .next c) plain) (shows-unlink C W s p c i e h x) p (D .next c) d
 
     -- The key is not there: the next vertex of the pool, or no room.
-    settles-new : Inner D p → D .next p ≡ c → Decides (new-vertex (room 254 2 (C .vertices-out)) k p c)
+    settles-new : Inner D p → D .next p ≡ c → Decides (new-vertex (room 254 2 (C .counts .vertices)) k p c)
         → Follows C w (vmove W (cond (leb 256 (D .used)) (replies D 9) (replies (insert D p k) 1)))
     settles-new i e d =
-        elim (lt-or (C .vertices-out) 254) [
+        elim (lt-or (C .counts .vertices) 254) [
           | inl h ↦
               let free : D .used < 256 = omega (arith, s .vertices) in
               rw (lt-leb 256 (D .used) free)
-              (ends C w (with-v W (insert D p k)) (NewVertex (2 + C .vertices-out) k c p) (shows-insert C W s g free p i k c e) 1
-              (d ∙ rw (room-left 254 2 (C .vertices-out) h)))
+              (says-with C w (with-v W (insert D p k)) (NewVertex (2 + C .counts .vertices) k c p) (shows-insert C W s g free p i k c e) 1
+              (d ∙ rw (room-left 254 2 (C .counts .vertices) h)))
           | inr h ↦
-              rw (le-leb 256 (D .used) (omega (arith, s .vertices))) (says-so C W s w 9 (d ∙ rw (room-full 254 2 (C .vertices-out) (s .vertices-fit) h)))
+              rw (le-leb 256 (D .used) (omega (arith, s .vertices))) (says-so C W s w 9 (d ∙ rw (room-full 254 2 (C .counts .vertices) (s .vertices-fit) h)))
         ]
 
     add-follows : (z : VertexSeen) (t : Seen) → Looked D k p c z t → Allowed 1 → Decides (decide-vertex C 1 k p c z)
@@ -106,7 +107,7 @@ module _ (C : Catalogue) (W : World) (s : Shows C W) (g : WGood W) (w : Worker) 
     rem-follows (seen.Unlinks n) passes (sees-gone i e h x) a d = passes-over false a i e h x d
     rem-follows (seen.Onward n) onward sees-lower a d = looks-on false a W Nothing (unwritten C W s) c (D .next c) d
     rem-follows (seen.Settles n true) settle (sees-equal h x q) a d =
-        rw q (ends C w (with-v W (mark D c)) (VertexLink c (D .next c) marked) (shows-mark C W s c h x) 1 d)
+        rw q (says-with C w (with-v W (mark D c)) (VertexLink c (D .next c) marked) (shows-mark C W s c h x) 1 d)
     rem-follows (seen.Settles n false) settle (sees-above m i e q) a d = rw q (says-so C W s w 2 d)
 
   -- ConV sees as a look for u does, and replies at once.

@@ -9,9 +9,10 @@ use lib.Signed.{_<ℤ_}
 use Rattle.catalogue.specs.Tests.{pick, table-from}
 use Rattle.laws.proofs.Picks.{pick-both}
 use Rattle.laws.proofs.Members.{All}
-use Rattle.resting.specs.Rows.{row}
-use Rattle.row.specs.Base.{same?, lt-or}
-use Rattle.row.specs.Lists.Links.{Run, stop, go, run-trans, View, Follows, Sorted}
+use Rattle.resting.specs.Kept.{row}
+use Rattle.row.proofs.Base.{same?, lt-or}
+use Rattle.row.proofs.Lists.LinkLaws.{run-trans}
+use Rattle.row.specs.Lists.Links.{Run, stop, go, View, Follows, Sorted}
 
 -- what holds of a row holds of each of its numbers
 pub all-in-row : (P : ℕ → Type 0) (from n : ℕ) → All P (row from n) → (i : ℕ) → from ≤ i → i < from + n → P i
@@ -19,7 +20,8 @@ unfolding table-from
 all-in-row P from zero h i a b = absurd (omega arith)
 all-in-row P from (suc n) h i a b = elim (same? from i) [ inl q ↦ rw (← q) (h .0) | inr d ↦ all-in-row P (suc from) n (h .1) i (omega arith) (omega arith) ]
 
--- The nodes of the numbers `from` to before `last`, between a head and the node of an end; `after i` is the number i if it is one of them, else the end.
+-- The nodes of the numbers `from` to before `last`, between a head and the node of an end;
+-- `after i` is the number i if it is one of them, else the end.
 module _ {N : Type 0} (L : View N) (hd : N) (node : ℕ → N) (end from last : ℕ) where
   abbrev after : ℕ → ℕ
   after i = pick (ltb i last) i end

@@ -1,37 +1,37 @@
--- The edge lists of the world after a sweep are sorted, because the numbers of each vertex's edges stand in a row; and every edge has its ends.
+-- The edge lists of the world after a sweep are sorted, because the numbers of each vertex's edges stand in a row;
+-- and every edge has its ends.
 use Prim.Native.Nat.{ℕ, _+_, _≤_, _<_}
 use mathlib.Core.Bool.{true, false}
-use mathlib.Core.List.{List, _∷_, _++_}
 use mathlib.Core.Logic.{inl, inr}
 use mathlib.Core.Path.{_≡_, refl, ap, _∙_}
 use native.Mathlib.Omega.{arith}
 use borrow.Author.Tests.{leb-true, ltb-true}
 use lib.Dec.{leb, ltb}
 use lib.IntN.{ℤ}
-use lib.ListN.{length, length-append}
 use lib.Signed.{_<ℤ_, ltZ-yes}
 use Rattle.catalogue.specs.Tests.{pick, every}
 use Rattle.catalogue.specs.Catalogue.{Catalogue, first-link, edge-key, edge-key-in, edge-link, edge-target, at-edge, at-target}
 use Rattle.catalogue.specs.Numbers.{least, greatest}
-use Rattle.catalogue.specs.Live.{first-edge, next-edge, edges-of, live-vertices}
+use Rattle.catalogue.specs.Live.{first-edge, next-edge, edges-of, live-keys}
 use Rattle.catalogue.specs.Soundness.{Asks, tag-fits, target-sound, edge-sound, edges-sound, sound}
-use Rattle.catalogue.specs.Sweep.{swept}
+use Rattle.catalogue.specs.Sweep.{swept, swept-edges}
 use Rattle.catalogue.specs.declared.links.EdgeLink.{EdgeLink}
 use Rattle.laws.proofs.Picks.{pick-both, clash}
 use Rattle.laws.proofs.Members.{All, every-all}
-use Rattle.resting.specs.Rows.{row}
-use Rattle.resting.specs.Sound.{edge-rises, whole, lists-sound}
-use Rattle.resting.specs.Shape.{live-row}
-use Rattle.resting.specs.Shares.{start, number, stop, size, shares-length, row-low, link-row, first-link-row, edges-row}
-use Rattle.resting.specs.Kept.{edge-source, edge-aim}
-use Rattle.row.specs.Base.{lt-or}
+use Rattle.resting.specs.Kept.{row, In, start, size, stop, share}
+use Rattle.resting.proofs.Sound.{edge-rises, whole, lists-sound}
+use Rattle.resting.proofs.Shape.{live-row}
+use Rattle.resting.proofs.Shares.{row-low, link-row, first-link-row, edges-row, together}
+use Rattle.resting.proofs.Blocks.{source-there, only-there}
+use Rattle.resting.proofs.Targets.{leads}
+use Rattle.resting.proofs.Standing.{source-in}
+use Rattle.row.proofs.Base.{lt-or}
 use Rattle.row.specs.Lists.Links.{Sorted}
 use Rattle.row.specs.Lists.Edges.{Edges, Prev, head, at, Mine, eview, ESound}
-use Rattle.row.specs.Graphs.Good.{Ends}
+use Rattle.row.proofs.Graphs.Good.{Ends}
 use Rattle.promises.proofs.Sweeps.InRow.{all-in-row, Place, first, final, inner, Row, row-sorted}
-use Rattle.promises.proofs.Sweeps.Owners.{owner-is, owned-by}
 use Rattle.promises.proofs.Sweeps.Vertices.{above-least}
-use Rattle.promises.proofs.Sweeps.World.{count, edge-count, swept-world, first-is, each-number}
+use Rattle.promises.proofs.Sweeps.World.{count, edge-count, swept-world, first-is, fits}
 
 pub edge-tail-key : (C : Catalogue) → edge-key (swept C) 0 ≡ greatest
 unfolding edge-key-in
@@ -51,72 +51,69 @@ module _ (asks : Asks) (C : Catalogue) (s : sound asks C ≡ true) (again : soun
   tail-above = rw (edge-tail-key C) (ltZ-yes tt)
 
   above : (e : ℕ) → 1 ≤ e → e ≤ edge-count C → least <ℤ key e
-  above e a b = let t = edge-aim asks C s e a b in rw (← t .keyed) (above-least asks C s again (t .to) (t .low) (t .high))
-
-  owner-place : (e : ℕ) → 1 ≤ e → e ≤ edge-count C → (2 ≤ lists .owner e) × (lists .owner e < 2 + count C)
-  owner-place e a b =
-      let p = edge-source asks C s e a b in
-      rw (owner-is C (p .front) (p .source) (p .rest) (p .split) e (p .low) (p .high))
-      (omega arith, omega (arith, ap length (p .split), length-append (p .front) (p .source ∷ p .rest)))
+  above e a b = let t = leads (fits asks C s) e a b in rw (← t .keyed) (above-least asks C s again (t .to) (t .low) (t .high))
 
   pub edge-ends : (e : ℕ) → 1 ≤ e → e < 1 + edge-count C → Ends (swept-world C) e
   edge-ends e a b =
-      let o = owner-place e a (omega arith) in
-      let t = edge-aim asks C s e a (omega arith) in
+      let o = source-in (fits asks C s) e a (omega arith) in
+      let t = leads (fits asks C s) e a (omega arith) in
       let q : lists .target e ≡ t .to = ap (λ l. at-target l 0 (λ y. y)) (t .read) in
       record { source-low = o .0; source-high = o .1; target-low = rw q (t .low); target-high = rw q (t .high); same-key = rw q (t .keyed) }
 
-  -- ---- the list of a live vertex
+  -- ---- the list of a vertex
 
-  module _ (front : List ℕ) (x : ℕ) (rest : List ℕ) (split : live-vertices C ≡ front ++ x ∷ rest) where
-    in-range : number front < 2 + count C
-    in-range = omega (arith, ap length split, length-append front (x ∷ rest))
+  module _ (i : ℕ) (r : In (live-keys C) i) where
+    abbrev from : ℕ
+    from = start (share C) i
 
-    few : stop C front x ≤ 1 + edge-count C
-    few = omega (arith, row-low asks C s front x rest split, shares-length C (live-vertices C))
+    abbrev last : ℕ
+    last = stop (share C) i
 
-    first-there : lists .first (number front) ≡ pick (ltb (start C front) (stop C front x)) (start C front) 0
-    first-there = first-is C (number front) (omega arith) in-range ∙ ap to (first-link-row asks C s front x rest split)
+    few : last ≤ 1 + edge-count C
+    few = omega (arith, row-low (fits asks C s) i r)
 
-    above-there : least <ℤ key (pick (ltb (start C front) (stop C front x)) (start C front) 0)
+    first-there : lists .first i ≡ pick (ltb from last) from 0
+    first-there = first-is C i (r .0) (r .1) ∙ ap to (first-link-row (fits asks C s) i r)
+
+    above-there : least <ℤ key (pick (ltb from last) from 0)
     above-there =
-        pick-both (λ e. least <ℤ key e) (ltb (start C front) (stop C front x)) (start C front) 0
-        (λ t. above (start C front) (omega arith) (omega (arith, ltb-true (start C front) (stop C front x) t, few))) (λ t. tail-above)
+        pick-both (λ e. least <ℤ key e) (ltb from last) from 0
+        (λ t. above from (omega arith) (omega (arith, ltb-true from last t, few))) (λ t. tail-above)
 
     abbrev Passes : ℕ → Type 0
     Passes e = edge-sound asks (swept C) e ≡ true
 
-    pass : All Passes (row (start C front) (size C x))
+    pass : All Passes (row from (size (share C) i))
     pass =
-        let all = rw (live-row asks C s) at (lists-sound asks (swept C) again) in
-        let l = all-in-row (λ u. edges-sound asks (swept C) u ≡ true) 2 (count C) all (number front) (omega arith) in-range in
-        let t = whole (every (edge-sound asks (swept C)) (edges-of (swept C) (number front))) (first-link (swept C) (number front)) l in
-        rw (edges-row asks C s front x rest split) at (every-all (edge-sound asks (swept C)) (edges-of (swept C) (number front)) t)
+        let all = rw (live-row (live-keys C) (swept-edges C) (fits asks C s .few)) at (lists-sound asks (swept C) again) in
+        let l = all-in-row (λ u. edges-sound asks (swept C) u ≡ true) 2 (count C) all i (r .0) (r .1) in
+        let t = whole (every (edge-sound asks (swept C)) (edges-of (swept C) i)) (first-link (swept C) i) l in
+        rw (edges-row (fits asks C s) i r) at (every-all (edge-sound asks (swept C)) (edges-of (swept C) i) t)
 
     rises : (e : ℕ) → Passes e → key e <ℤ key (next-edge (swept C) e)
     rises e h = edge-rises (key e) key (tag-fits asks) (at-target (edge-target (swept C) e) false (target-sound (swept C) e)) (edge-link (swept C) e) h .0
 
-    edge-row : Row (eview lists (number front)) head at 0 (start C front) (stop C front x)
+    edge-row : Row (eview lists i) head at 0 from last
     edge-row =
         record {
           ends = inl refl;
           starts = record { inside = tt; goes = ap at first-there; apart = λ q. clash (cc); rises = rw first-there above-there };
           goes-on = λ e a b. record {
-            inside = inr (record { low = omega arith; high = omega (arith, few); own = owner-is C front x rest split e a b });
-            goes = ap (λ l. at (to l)) (link-row asks C s front x rest split e a b);
+            inside = inr (record { low = omega arith; high = omega (arith, few); own = source-there (together (fits asks C s) i r) e a b });
+            goes = ap (λ l. at (to l)) (link-row (fits asks C s) i r e a b);
             apart = λ q. let z : e ≡ 0 = cc in omega arith;
-            rises = rises e (all-in-row Passes (start C front) (size C x) pass e a b);
+            rises = rises e (all-in-row Passes from (size (share C) i) pass e a b);
           };
           covers = cover;
         }
       where
-        cover : (p : Prev) → Mine lists (number front) p → Place (eview lists (number front)) head at 0 (start C front) (stop C front x) p
+        cover : (p : Prev) → Mine lists i p → Place (eview lists i) head at 0 from last p
         cover head m = first refl
         cover (at e) (inl z) = final (ap at z)
-        cover (at e) (inr o) = let w = owned-by C front x rest split e (o .low) (omega (arith, o .high)) (o .own) in inner e (w .0) (w .1) refl
+        cover (at e) (inr o) = let w = only-there (together (fits asks C s) i r) (λ q. omega arith) e (o .low) (o .own) in inner e (w .0) (w .1) refl
 
-    list-sorted : Sorted head (at 0) (eview lists (number front))
-    list-sorted = row-sorted (eview lists (number front)) head at 0 (start C front) (stop C front x) edge-row
+    list-sorted : Sorted head (at 0) (eview lists i)
+    list-sorted = row-sorted (eview lists i) head at 0 from last edge-row
 
   -- ---- what is no vertex has no edges
 
@@ -140,7 +137,7 @@ module _ (asks : Asks) (C : Catalogue) (s : sound asks C ≡ true) (again : soun
         cover : (p : Prev) → Mine lists u p → Place (eview lists u) head at 0 1 1 p
         cover head m = first refl
         cover (at e) (inl z) = final (ap at z)
-        cover (at e) (inr o) = let w = owner-place e (o .low) (omega (arith, o .high)) in absurd (off (rw (o .own) at (w .0)) (rw (o .own) at (w .1)))
+        cover (at e) (inr o) = let w = source-in (fits asks C s) e (o .low) (omega (arith, o .high)) in absurd (off (rw (o .own) at (w .0)) (rw (o .own) at (w .1)))
 
     none-sorted : Sorted head (at 0) (eview lists u)
     none-sorted = row-sorted (eview lists u) head at 0 1 1 no-row
@@ -153,7 +150,7 @@ module _ (asks : Asks) (C : Catalogue) (s : sound asks C ≡ true) (again : soun
           elim (lt-or u 2) [
             | inl h ↦ none-sorted u (λ a b. omega arith)
             | inr a ↦ elim (lt-or u (2 + count C)) [
-              | inl b ↦ each-number asks C s (λ i. Sorted head (at 0) (eview lists i)) list-sorted u a b
+              | inl b ↦ list-sorted u (a, b)
               | inr h ↦ none-sorted u (λ a b. omega arith)
             ]
           ]

@@ -1,19 +1,18 @@
 -- After a sweep the catalogue again shows a good world, without an edge on trial, and the graph is that of before.
 use mathlib.Core.Bool.{true}
-use mathlib.Core.List.{[], _∷_}
 use mathlib.Core.Path.{_≡_, refl, sym, ap, ap₂, _∙_, fun-ext}
 use native.Mathlib.Omega.{arith}
 use lib.Signed.{≤ℤ-refl}
 use Rattle.catalogue.specs.Catalogue.{Catalogue}
 use Rattle.catalogue.specs.Numbers.{least}
-use Rattle.catalogue.specs.Listing.{vertex-lines, edge-lines}
 use Rattle.catalogue.specs.Soundness.{sweep, sound}
 use Rattle.catalogue.specs.Sweep.{swept}
-use Rattle.resting.specs.Kept.{same-vertices, same-edges, swept-sound}
+use Rattle.catalogue.specs.Tests.{eqZ}
+use Rattle.catalogue.specs.Live.{live-keys, live-pairs}
+use Rattle.resting.proofs.Keeping.{kept}
 use Rattle.row.specs.Machine.Vertices.{live}
 use Rattle.row.specs.Machine.World.{World, Untried, graph, edges}
-use Rattle.row.specs.Graphs.Good.{WGood}
-use Rattle.promises.specs.Graphs.{printed}
+use Rattle.row.proofs.Graphs.Good.{WGood}
 use Rattle.promises.proofs.Showing.Shows.{Shows}
 use Rattle.promises.proofs.Lists.AtRest.{rest-sound}
 use Rattle.promises.proofs.Lists.Live.{series-is, derived-is, no-loop-here}
@@ -21,6 +20,7 @@ use Rattle.promises.proofs.Sweeps.World.{swept-world, swept-shows, swep
 use Rattle.promises.proofs.Sweeps.Vertices.{swept-good}
 use Rattle.promises.proofs.Sweeps.Lists.{swept-esound, edge-tail-key, edge-ends}
 use Rattle.promises.proofs.Sweeps.Safe.{swept-safe}
+use Rattle.promises.specs.Graphs.{among, same-pair}
 
 pub record Swept (C : Catalogue) : Type 0 where
   pub world : World
@@ -28,20 +28,20 @@ pub record Swept (C : Catalogue) : Type 0 where
   pub good : WGood world
   pub untried : Untried world
 
--- a catalogue with the lines of another shows the same graph
+-- a catalogue with the live graph of another shows the same one
 module _ (C D : Catalogue) (W X : World) (s : Shows C W) (g : WGood W) (t : Shows D X) (h : WGood X) where
-  same-live : vertex-lines D ≡ vertex-lines C → live (X .v) ≡ live (W .v)
-  same-live e = fun-ext (λ k. sym (series-is D X t h k) ∙ ap (printed (k ∷ [])) e ∙ series-is C W s g k)
+  same-live : live-keys D ≡ live-keys C → live (X .v) ≡ live (W .v)
+  same-live e = fun-ext (λ k. sym (series-is D X t h k) ∙ ap (among eqZ k) e ∙ series-is C W s g k)
 
-  same-edge : edge-lines D ≡ edge-lines C → edges X ≡ edges W
-  same-edge e = fun-ext (λ k. fun-ext (λ l. sym (derived-is D X t h k l) ∙ ap (printed (k ∷ l ∷ [])) e ∙ derived-is C W s g k l))
+  same-edge : live-pairs D ≡ live-pairs C → edges X ≡ edges W
+  same-edge e = fun-ext (λ k. fun-ext (λ l. sym (derived-is D X t h k l) ∙ ap (among same-pair (k, l)) e ∙ derived-is C W s g k l))
 
 module _ (C : Catalogue) (W : World) (s : Shows C W) (g : WGood W) (u : Untried W) where
   whole : sound sweep C ≡ true
   whole = rest-sound C W s g sweep (λ q. u)
 
   again : sound sweep (swept C) ≡ true
-  again = swept-sound sweep C whole (rw (s .vkeys 0 (omega (arith, g .good .sound .some)), g .good .key-head) (≤ℤ-refl least)) sweep
+  again = kept sweep C whole .swept-sound (rw (s .vkeys 0 (omega (arith, g .good .sound .some)), g .good .key-head) (≤ℤ-refl least)) sweep
 
   pub sweeps-well : Swept C
   sweeps-well =
@@ -63,5 +63,5 @@ module _ (C : Catalogue) (W : World) (s : Shows C W) (g : WGood W) (u : Untried 
   sweeps-same =
       let n = sweeps-well in
       ap₂ (λ v e. record { v = v; e = e })
-      (same-live C (swept C) W (n .world) s g (n .shows) (n .good) (same-vertices sweep C whole))
-      (same-edge C (swept C) W (n .world) s g (n .shows) (n .good) (same-edges sweep C whole))
+      (same-live C (swept C) W (n .world) s g (n .shows) (n .good) (kept sweep C whole .same-keys))
+      (same-edge C (swept C) W (n .world) s g (n .shows) (n .good) (kept sweep C whole .same-pairs))

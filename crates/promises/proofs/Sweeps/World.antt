@@ -1,7 +1,6 @@
--- The world that a swept catalogue shows: its lists as they are read, every edge in the list of its owner.
+-- The world that a swept catalogue shows: its lists as they are read, every edge in the list of its source.
 use Prim.Native.Nat.{ℕ, _+_, _≤_, _<_}
 use mathlib.Core.Bool.{true, false}
-use mathlib.Core.List.{List, _∷_, _++_}
 use mathlib.Core.Logic.{inl, inr}
 use mathlib.Core.Path.{_≡_, refl}
 use native.Mathlib.Omega.{arith}
@@ -9,36 +8,35 @@ use borrow.Author.Tests.{ne-eqb, le-leb, lt-ltb}
 use lib.Dec.{eqb, leb, ltb}
 use lib.ListN.{length}
 use Rattle.catalogue.specs.Tests.{pick}
-use Rattle.catalogue.specs.Catalogue.{Catalogue, vertex-key, vertex-link, first-link, edge-key, edge-link, edge-target, at-vertex, at-edge, at-target}
+use Rattle.catalogue.specs.Catalogue.{Catalogue, vertex-key, vertex-link, edge-key, edge-link, edge-target, at-vertex, at-edge, at-target}
 use Rattle.catalogue.specs.Numbers.{plain}
-use Rattle.catalogue.specs.Live.{next-vertex, first-edge, next-edge, live-vertices, live-edges-of, gather}
+use Rattle.catalogue.specs.Live.{next-vertex, first-edge, next-edge, live-keys}
 use Rattle.catalogue.specs.Soundness.{Asks, sound}
-use Rattle.catalogue.specs.Sweep.{swept}
+use Rattle.catalogue.specs.Sweep.{swept, swept-edges, source-at}
 use Rattle.catalogue.specs.declared.links.VertexLink.{VertexLink}
 use Rattle.catalogue.specs.declared.links.VertexLink.the-variants as vertex
 use Rattle.catalogue.specs.declared.links.EdgeLink.{EdgeLink}
 use Rattle.catalogue.specs.declared.links.EdgeLink.the-variants as edge
 use Rattle.catalogue.specs.declared.links.Target.{Target}
 use Rattle.catalogue.specs.declared.links.Target.the-variants as target
-use Rattle.resting.specs.Vertices.{live-few}
-use Rattle.resting.specs.Reads.{head-at, vertex-at}
-use Rattle.resting.specs.Shape.{live-row, each-vertex}
-use Rattle.resting.specs.Shares.{link-row, first-link-row}
-use Rattle.resting.specs.Kept.{vertices-handed, edges-handed, edge-source, edge-aim}
 use Rattle.laws.proofs.Picks.{clash}
-use Rattle.row.specs.Base.{same?}
+use Rattle.resting.proofs.SweptReads.{head-at, vertex-at, handed-out}
+use Rattle.resting.proofs.Shares.{link-row, first-link-row, Fits}
+use Rattle.resting.proofs.Targets.{leads}
+use Rattle.resting.proofs.Standing.{source-in, source-row}
+use Rattle.resting.specs.Kept.{share}
+use Rattle.resting.proofs.Edges.{swept-fits}
+use Rattle.row.proofs.Base.{same?}
 use Rattle.row.specs.Lists.Edges.{transit, added}
 use Rattle.row.specs.Machine.World.{World, Untried}
 use Rattle.promises.proofs.Showing.Shows.{Shows, edge-tag-of}
-use Rattle.promises.proofs.Sweeps.Owners.{owner}
-use Rattle.promises.proofs.Sweeps.InRow.{all-in-row}
 
 module _ (C : Catalogue) where
   abbrev pub count : ℕ
-  count = length (live-vertices C)
+  count = length (live-keys C)
 
   abbrev pub edge-count : ℕ
-  edge-count = length (gather (live-edges-of C) (live-vertices C))
+  edge-count = length (swept-edges C)
 
   -- the list of what is no vertex is empty
   abbrev pub swept-world : World
@@ -50,7 +48,7 @@ module _ (C : Catalogue) where
       tag = λ e. pick (eqb e 0) transit added;
       key = edge-key (swept C);
       target = λ e. at-target (edge-target (swept C) e) 0 (λ y. y);
-      owner = owner C;
+      owner = source-at (swept-edges C);
       used = 1 + edge-count;
     };
   }
@@ -75,40 +73,33 @@ target-whole : (l : Target) (y : ℕ) → l ≡ target.At y → l ≡ target.At 
 target-whole l y q = rw q refl
 
 module _ (asks : Asks) (C : Catalogue) (s : sound asks C ≡ true) where
-  -- what holds of the new number of each live vertex, by those before it, holds of every vertex number
-  pub each-number : (P : ℕ → Type 0) → ((front : List ℕ) (x : ℕ) (rest : List ℕ) → live-vertices C ≡ front ++ x ∷ rest → P (2 + length front))
-      → (u : ℕ) → 2 ≤ u → u < 2 + count C → P u
-  each-number P h = all-in-row P 2 (count C) (rw (live-row asks C s) at (each-vertex asks C s P h))
+  abbrev pub fits : Fits (live-keys C) (swept-edges C) (share C)
+  fits = swept-fits asks C s
 
   pub swept-shows : Shows (swept C) (swept-world C)
   swept-shows =
       record {
-        vertices = omega (arith, vertices-handed asks C s .0);
-        vertices-fit = omega (arith, vertices-handed asks C s .0, vertices-handed asks C s .1);
-        edges = omega (arith, edges-handed asks C s .0);
-        edges-fit = omega (arith, edges-handed asks C s .0, edges-handed asks C s .1);
+        vertices = omega (arith, handed .0);
+        vertices-fit = omega (arith, handed .0, fits .few);
+        edges = omega (arith, handed .1);
+        edges-fit = omega (arith, handed .1, fits .edges-few);
         vkeys = λ x h. refl;
         vlinks = next-there;
-        firsts = first-there;
+        firsts = λ x a b. rw (first-is C x a b) (edge-whole _ _ _ (first-link-row fits x (a, b)));
         ekeys = λ e h. refl;
         elinks = λ e a h. rw (tag-is C e a) (edge-there e a (omega arith));
-        targets = λ e a h. target-whole _ _ (edge-aim asks C s e a (omega arith) .read);
+        targets = λ e a h. target-whole _ _ (leads fits e a (omega arith) .read);
       }
     where
+      handed : (swept C .counts .vertices ≡ count C) × (swept C .counts .edges ≡ edge-count C)
+      handed = handed-out (live-keys C) (swept-edges C)
+
       next-there : (x : ℕ) → x < 2 + count C → (x ≡ 1 → ⊥) → vertex-link (swept C) x ≡ vertex.At (next-vertex (swept C) x) plain
       next-there x h d =
           elim (same? x 0) [
-            | inl q ↦ rw q (vertex-whole _ _ _ (head-at C (live-few asks C s)))
-            | inr n ↦ vertex-whole _ _ _ (vertex-at C (live-few asks C s) x (omega arith) h)
+            | inl q ↦ rw q (vertex-whole _ _ _ (head-at (live-keys C) (swept-edges C) (fits .few)))
+            | inr n ↦ vertex-whole _ _ _ (vertex-at (live-keys C) (swept-edges C) (fits .few) x (omega arith) h)
           ]
 
-      first-there : (x : ℕ) → 2 ≤ x → x < 2 + count C → first-link (swept C) x ≡ edge.At (swept-world C .e .first x) plain
-      first-there x a b =
-          rw (first-is C x a b)
-          (each-number (λ i. first-link (swept C) i ≡ edge.At (first-edge (swept C) i) plain)
-          (λ front y rest split. edge-whole _ _ _ (first-link-row asks C s front y rest split)) x a b)
-
       edge-there : (e : ℕ) → 1 ≤ e → e ≤ edge-count C → edge-link (swept C) e ≡ edge.At (next-edge (swept C) e) (edge-tag-of added)
-      edge-there e a h =
-          let p = edge-source asks C s e a h in
-          edge-whole _ _ _ (link-row asks C s (p .front) (p .source) (p .rest) (p .split) e (p .low) (p .high))
+      edge-there e a h = let p = source-row fits e a h in edge-whole _ _ _ (link-row fits (source-at (swept-edges C) e) (source-in fits e a h) e (p .0) (p .1))

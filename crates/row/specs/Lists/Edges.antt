@@ -1,4 +1,5 @@
--- The edge lists: node 0 the tail of each, 1 .. used - 1 handed out; `owner`, a ghost that no step reads, says whose list a node is in.
+-- The edge lists: node 0 the tail of each, 1 .. used - 1 handed out;
+-- `owner`, a ghost that no step reads, says whose list a node is in.
 -- Their three changes, and when each may be made.
 use Prim.Native.Nat.{ℕ, suc, _≤_, _<_}
 use mathlib.Core.Bool.{Bool, true, false}

@@ -1,4 +1,5 @@
--- The vertex list: node 0 the head, 1 the tail, 2 .. used - 1 handed out. Its three changes, and when each may be made.
+-- The vertex list: node 0 the head, 1 the tail, 2 .. used - 1 handed out.
+-- Its three changes, and when each may be made.
 use Prim.Native.Nat.{ℕ, suc, _≤_, _<_}
 use mathlib.Core.Bool.{Bool, true, false}
 use mathlib.Core.Path.{_≡_}

@@ -8,7 +8,7 @@ use lib.Signed.{ltZ}
 use Rattle.row.specs.Lists.Store.{Cat}
 use Rattle.catalogue.specs.Tests.{eqZ}
 use Rattle.row.specs.Machine.Vertices.{Place, Idle, AddV, RemV, ConV, Out, step}
-use Rattle.row.specs.Lists.Edges.{marked, added, Prev, head, at, is-marked, link, tag-at, einsert, eunlink, retag}
+use Rattle.row.specs.Lists.Edges.{Tag, marked, transit, added, Prev, head, at, is-marked, link, tag-at, einsert, eunlink, retag}
 use Rattle.row.specs.Machine.World.{World, Kind, rems, adds, cons, Opened, closed, opened, Hunt, hunt-from, stands-at, meets, took, Spot, Rest, Vert, FindU, FindV, LookE, ConE, Trial, Next, goes, says, with-e, is-added}
 
 -- ---- vertex operations, as in Vertices
@@ -94,10 +94,20 @@ look-e W b k l u v p c e-settle = settles b W k l u v p c
 
 -- ---- the trial
 
+-- the trial of the edge e may cross an edge c with this tag
+abbrev pub may-cross : Tag → ℕ → ℕ → Bool
+may-cross marked c e = false
+may-cross transit c e = true
+may-cross added c e = true
+
+-- it crosses c: to a target that is unmarked and unmet
+abbrev pub crosses : World → ℕ → Hunt → ℕ → Bool
+crosses W e h c = may-cross (W .e .tag c) c e && (not (W .v .marked (W .e .target c)) && not (h .met (W .e .target c)))
+
 abbrev pub hunt-open : World → ℤ → ℤ → ℕ → ℕ → ℕ → Hunt → ℕ → ℕ → Next
 hunt-open W k l u v e h x c =
     cond (W .v .marked x || eqb c 0) (goes W (Trial k l u v e (stands-at h closed)))
-    (cond (not (is-marked (W .e .tag c)) && (not (W .v .marked (W .e .target c)) && not (h .met (W .e .target c))))
+    (cond (crosses W e h c)
     (goes W (Trial k l u v e (meets h (W .e .target c) (opened x (W .e .next c)))))
     (goes W (Trial k l u v e (stands-at h (opened x (W .e .next c))))))
 

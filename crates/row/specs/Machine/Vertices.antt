@@ -1,4 +1,5 @@
--- The vertex operations AddV, RemV and ConV, step by step; the live set, and what a call does to it alone. Nothing is proved here.
+-- The vertex operations AddV, RemV and ConV, step by step; the live set, and what a call does to it alone.
+-- Nothing is proved here.
 use Prim.Native.Nat.{ℕ, zero, suc}
 use mathlib.Core.Bool.{Bool, true, false, cond, not, _&&_}
 use mathlib.Core.Option.{Option, none, some}
@@ -73,8 +74,11 @@ begin C (addV k) = AddV k 0 (C .next 0)
 begin C (remV k) = RemV k 0 (C .next 0)
 begin C (conV k) = ConV k (C .next 0)
 
+abbrev pub fits-key : ℤ → Bool
+fits-key k = ltZ least k && ltZ k greatest
+
 abbrev pub legal : Request → Bool
-legal q = ltZ least (key-of q) && ltZ (key-of q) greatest
+legal q = fits-key (key-of q)
 
 -- the list at first: head and tail
 abbrev pub fresh : Cat

@@ -1,5 +1,5 @@
--- A world: the vertex list and the edge lists; what a worker may be asked and where it may stand; the live graph, and what a call does to it alone.
--- Nothing is proved here.
+-- A world: the vertex list and the edge lists; what a worker may be asked and where it may stand;
+-- the live graph, and what a call does to it alone. Nothing is proved here.
 use Prim.Native.Nat.{ℕ, zero, suc, _≤_, _<_}
 use mathlib.Core.Bool.{Bool, true, false, cond, not, _&&_, _||_}
 use mathlib.Core.Path.{_≡_}
@@ -28,7 +28,8 @@ ask-of adds k l = addE k l
 ask-of rems k l = remE k l
 ask-of cons k l = conE k l
 
--- a trial's search: the vertices met, those of its queue not yet taken, those taken, and the open vertex with its current edge
+-- a trial's search: the vertices met, those of its queue not yet taken, those taken,
+-- and the open vertex with its current edge
 pub data Opened : Type 0 where
   closed : Opened
   opened : ℕ → ℕ → Opened

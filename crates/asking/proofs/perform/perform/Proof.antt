@@ -1,7 +1,7 @@
--- Each turn keeps what the request comes to, and leaves fewer steps.
+-- Each turn keeps what the request comes to, and has fewer steps left.
 use mathlib.Core.Bool.{false}
 use mathlib.Core.Logic.{_⊎_, ⊎-elim, inl, inr}
-use mathlib.Core.Path.{_≡_, ap}
+use mathlib.Core.Path.{_≡_, ap, ap₂}
 use Prim.Native.Nat.{_≤_}
 use lib.Dec.{eqb}
 use lib.ListN.{length}
@@ -11,13 +11,14 @@ use mir.Facts.{toZ-ofZ}
 use borrow.Author.Needs.{needs}
 use Rattle.asking.specs.Asked.{Ended, ask-on, asked}
 use Rattle.catalogue.specs.Lent.{memory-of}
+use Rattle.catalogue.specs.Workers.{asks}
 use Rattle.asking.proofs.AskLaws.{At, ask-starts, ask-again, ask-ends}
 use Rattle.asking.proofs.perform.perform.Statement.{statement}
 use Rattle.asking.proofs.perform.perform.Tie as tie
 
 abbrev Inv-loop : tie.InvT-loop
 Inv-loop keys₀ words₀ code k l table₀ number₀ left₀ keys words table number left =
-    (ask-on left (At keys words table number) ≡ asked (memory-of keys₀ words₀) code (toZ w32 k) (toZ w32 l))
+    (ask-on left (At keys words table number) ≡ asked (memory-of keys₀ words₀) (asks code (toZ w32 k) (toZ w32 l)))
     × (length keys ≡ length keys₀) × (length words ≡ length words₀) × (left ≤ 10000)
 
 abbrev μ-loop : tie.MeasureT-loop
@@ -35,7 +36,7 @@ answer-number-requires c κs = tt
 loop-holds : tie.Need-loop-holds Inv-loop μ-loop
 loop-holds c =
     let at-take-up = c .before .before in (
-      ask-starts _ _ _ _ _ _ _ _ (at-take-up .before .idle-table .ensures) (at-take-up .take-up .ensures) (c .answer-number .ensures),
+      ask-starts _ _ _ _ _ _ (at-take-up .before .idle-table .ensures) (at-take-up .take-up .ensures) (c .answer-number .ensures),
       search needs,
       search needs,
       search needs,
@@ -80,7 +81,7 @@ returns : tie.Need-returns Inv-loop μ-loop
 returns c =
     let start = c .before .before .before .before .before .before .before .before .before in
     let s = c .before .loop in
-    let e = ask-ends (s .left) (At (s .keys) (s .words) (s .table) (s .number)) _ _ (s .inv .0) (toZ-ofZ (start .fits .k)) (toZ-ofZ (start .fits .l)) (ended-by c) in
+    let e = ask-ends (s .left) (At (s .keys) (s .words) (s .table) (s .number)) _ (s .inv .0) (ap₂ (asks _) (toZ-ofZ (start .fits .k)) (toZ-ofZ (start .fits .l))) (ended-by c) in
     (ap (λ (x : Ended). x .performed) e, (ap (λ (x : Ended). x .memory .keys) e, ap (λ (x : Ended). x .memory .words) e))
 
 pub perform-spec : {M : Type 1} → statement M

@@ -1,6 +1,6 @@
 -- A number of 16 bits has an opposite of 32.
 use native.Mathlib.Omega.{arith}
-use Rattle.script.proofs.KeyLaws.{plain-is, opposite-fits, opposite-is}
+use Rattle.digits.proofs.Signs.{plain-is, opposite-fits, opposite-is}
 use Rattle.asking.specs.Tallies.{key}
 use Rattle.laws.proofs.Ways.{on-true, on-false}
 use borrow.Author.Needs.{needs}

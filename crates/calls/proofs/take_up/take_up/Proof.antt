@@ -1,6 +1,5 @@
 -- Each way out is the case of the definition that its checks choose.
 use Rattle.memory.proofs.Sizes.{sized-flag}
-use Rattle.workers.proofs.CheckLaws.{below-flag}
 use Rattle.calls.proofs.Outcomes.{taking-up}
 use Rattle.catalogue.specs.Calls.{take-up}
 use borrow.Author.Needs.{needs}
@@ -14,11 +13,22 @@ worker-fits-requires : tie.Need-worker-fits-requires
 worker-fits-requires c κs = search needs
 
 worker-at-requires : tie.Need-worker-at-requires
-unfolding take-up
 worker-at-requires c κs = search taking-up
 
-busy-at-requires : tie.Need-busy-at-requires
-busy-at-requires c κs = search needs
+admit-requires : tie.Need-admit-requires
+admit-requires c κs = search (sized-flag, needs)
+
+enum-known-admission : tie.Need-enum-known-admission
+enum-known-admission c = search needs
+
+bare-requires : tie.Need-bare-requires
+bare-requires c κs = search needs
+
+put-requires : tie.Need-put-requires
+put-requires c κs = search taking-up
+
+enum-known-admission-2 : tie.Need-enum-known-admission-2
+enum-known-admission-2 c = search needs
 
 refuse-requires : tie.Need-refuse-requires
 refuse-requires c κs = search needs
@@ -26,10 +36,6 @@ refuse-requires c κs = search needs
 returns : tie.Need-returns
 unfolding take-up
 returns c = search taking-up
-
-start-up-requires : tie.Need-start-up-requires
-unfolding take-up
-start-up-requires c κs = (search (sized-flag, needs), search (below-flag, needs))
 
 returns-2 : tie.Need-returns-2
 unfolding take-up
@@ -56,10 +62,13 @@ take-up-spec =
     sized-requires
     worker-fits-requires
     worker-at-requires
-    busy-at-requires
+    admit-requires
+    enum-known-admission
+    bare-requires
+    put-requires
+    enum-known-admission-2
     refuse-requires
     returns
-    start-up-requires
     returns-2
     refuse-requires-2
     returns-3

@@ -1,6 +1,6 @@
--- The number is that of the answer, and both slices are as the covered call leaves them.
+-- The number is that of the answer, and both slices are those of the covered call.
 use mathlib.Core.Path.{_∙_, ap}
-use Rattle.numbers.specs.Packing.{packed-made}
+use Rattle.border.specs.Packing.{packed-made}
 use borrow.Author.Needs.{needs}
 use Rattle.host.proofs.fresh.pallaymi_fresh.Statement.{statement}
 use Rattle.host.proofs.fresh.pallaymi_fresh.Tie as tie

@@ -1,6 +1,6 @@
--- The number is that of the answer, and the output is as the covered call leaves it.
+-- The number is that of the answer, and the output is that of the covered call.
 use mathlib.Core.Path.{_∙_, ap}
-use Rattle.numbers.specs.Packing.{packed-listed}
+use Rattle.border.specs.Packing.{packed-listed}
 use borrow.Author.Needs.{needs}
 use Rattle.host.proofs.list.pallaymi_listing.Statement.{statement}
 use Rattle.host.proofs.list.pallaymi_listing.Tie as tie

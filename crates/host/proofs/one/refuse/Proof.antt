@@ -1,4 +1,4 @@
--- The record stays, and the number is that of the refusal.
+-- The record is unchanged, and the number is that of the refusal.
 use Rattle.host.proofs.Moves.{makes}
 use borrow.Author.Needs.{needs}
 use Rattle.host.proofs.one.refuse.Statement.{statement}

@@ -1,13 +1,14 @@
 -- Each way out is the case of the definition that its checks choose, in any table that has the record.
 use mathlib.Core.Bool.{true}
-use mathlib.Core.Path.{_≡_, sym, _∙_}
+use mathlib.Core.Path.{_≡_, sym, _∙_, ap₂}
 use mir.Facts.{toZ-ofZ}
 use denote.Ref.{now}
 use Rattle.catalogue.specs.Calls.{worker-fits}
 use Rattle.catalogue.specs.Lent.{memory-of, sized}
+use Rattle.catalogue.specs.Workers.{asks}
 use Rattle.memory.proofs.Sizes.{sized-flag}
-use Rattle.host.proofs.Starting.{take-unsized, take-worker, take-busy, take-started}
-use borrow.Author.Needs.{needs, sfits-of}
+use Rattle.host.proofs.Starting.{take-unsized, take-worker, take-admitted}
+use borrow.Author.Needs.{needs}
 use Rattle.host.proofs.one.take_up_one.Statement.{statement}
 use Rattle.host.proofs.one.take_up_one.Tie as tie
 
@@ -20,11 +21,11 @@ worker-fits-requires c κs = search needs
 worker-in-requires : tie.Need-worker-in-requires
 worker-in-requires c κs = search needs
 
-busy-at-requires : tie.Need-busy-at-requires
-busy-at-requires c κs = search needs
+admit-requires : tie.Need-admit-requires
+admit-requires c κs = search (sized-flag, needs)
 
-refuse-requires : tie.Need-refuse-requires
-refuse-requires c κs = search needs
+enter-requires : tie.Need-enter-requires
+enter-requires c κs = search needs
 
 -- what the tests on the way to the record say
 sized-true : (c : tie.Then1) → sized (memory-of (now (c .before .before .before .args .keys)) (now (c .before .before .before .args .words))) ≡ true
@@ -35,32 +36,25 @@ worker-true c = sym (c .before .worker-fits .ensures) ∙ c .if2 .taken
 
 returns : tie.Need-returns
 returns c =
-    let w = c .before .before .before in
-    take-busy _ _ _ _ _ _ _ _ (sized-true (w .before .before .before)) (worker-true (w .before)) _ (w .worker-in .ensures)
-    (sym (c .before .before .busy-at .ensures) ∙ c .before .if3 .taken) (c .refuse .ensures)
+    let up = c .before in
+    let w = up .before in
+    let start = w .before .before .before .before .before .before in
+    take-admitted _ _ _ _ _ _ (sized-true (w .before .before .before)) (worker-true (w .before)) _ (w .worker-in .ensures) _ _ (up .admit .ensures)
+    (ap₂ (asks _) (toZ-ofZ (start .fits .k)) (toZ-ofZ (start .fits .l))) (c .enter .ensures)
 
-start-one-requires : tie.Need-start-one-requires
-start-one-requires c κs = search (sized-flag, needs)
+refuse-requires : tie.Need-refuse-requires
+refuse-requires c κs = search needs
 
 returns-2 : tie.Need-returns-2
 returns-2 c =
-    let w = c .before .before .before in
-    take-started _ _ _ _ _ _ _ _ (sized-true (w .before .before .before)) (worker-true (w .before)) _ (w .worker-in .ensures)
-    (sym (c .before .before .busy-at .ensures) ∙ c .before .if3 .left) _ _ (c .start-one .ensures) (search (toZ-ofZ, sfits-of)) (search (toZ-ofZ, sfits-of))
+    let fits = c .before .before in
+    take-worker _ _ _ _ _ _ (sized-true (fits .before)) (sym (fits .worker-fits .ensures) ∙ c .before .if2 .left) (c .refuse .ensures)
 
 refuse-requires-2 : tie.Need-refuse-requires-2
 refuse-requires-2 c κs = search needs
 
 returns-3 : tie.Need-returns-3
-returns-3 c =
-    let fits = c .before .before in
-    take-worker _ _ _ _ _ _ _ _ (sized-true (fits .before)) (sym (fits .worker-fits .ensures) ∙ c .before .if2 .left) (c .refuse2 .ensures)
-
-refuse-requires-3 : tie.Need-refuse-requires-3
-refuse-requires-3 c κs = search needs
-
-returns-4 : tie.Need-returns-4
-returns-4 c = take-unsized _ _ _ _ _ _ _ _ (sym (c .before .before .sized .ensures) ∙ c .before .if1 .left) (c .refuse3 .ensures)
+returns-3 c = take-unsized _ _ _ _ _ _ (sym (c .before .before .sized .ensures) ∙ c .before .if1 .left) (c .refuse2 .ensures)
 
 pub take-up-one-spec : {M : Type 1} → statement M
 take-up-one-spec =
@@ -69,12 +63,10 @@ take-up-one-spec =
     sized-requires
     worker-fits-requires
     worker-in-requires
-    busy-at-requires
-    refuse-requires
+    admit-requires
+    enter-requires
     returns
-    start-one-requires
+    refuse-requires
     returns-2
     refuse-requires-2
-    returns-3
-    refuse-requires-3
-    returns-4)
+    returns-3)

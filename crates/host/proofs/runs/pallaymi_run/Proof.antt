@@ -1,6 +1,6 @@
--- The number is that of the answer, and the slices are as the covered call leaves them.
+-- The number is that of the answer, and the slices are those of the covered call.
 use mathlib.Core.Path.{_∙_, ap}
-use Rattle.numbers.specs.Packing.{packed-ran}
+use Rattle.border.specs.Packing.{packed-ran}
 use borrow.Author.Needs.{needs}
 use Rattle.host.proofs.runs.pallaymi_run.Statement.{statement}
 use Rattle.host.proofs.runs.pallaymi_run.Tie as tie

@@ -1,4 +1,6 @@
--- The worker's record is read out of the borrowed table and passed with the slices to the covered step, of which only its contract is known; what comes back is stored over the record, and the number is returned. A walk of the MIR by hand.
+-- The worker's record is read out of the borrowed table and passed with the slices to the covered step, of which
+-- only its contract is known; what comes back is stored over the record, and the number is returned. A walk of the
+-- MIR by hand.
 use mathlib.Core.Path.{_≡_, refl, _∙_, ap}
 use Prim.Native.Nat.{ℕ, _<_, _^_}
 use mathlib.Core.List.{[], _∷_, List}
@@ -42,12 +44,12 @@ use denote.Triple.Table.{entered, cited}
 use denote.Triple.Clauses.{ensured, lasts}
 use denote.Triple.Walked.{says, Stays, stay-none, stay-ref, gave-slice, walkOf, AllGo, goes-none, goes-gave-slice, goes-ref, Walks, ends-at, walked, walk-meets}
 use Rattle.catalogue.specs.Lent.{memory-of}
-use Rattle.numbers.specs.Kept.{record-at, put-record, slot}
-use Rattle.numbers.specs.declared.kept.Kept.{Kept}
-use Rattle.numbers.proofs.kept.Kept as K
-use Rattle.numbers.proofs.kept.Kept.Laws as K′
-use Rattle.numbers.proofs.kept.Record as R
-use Rattle.numbers.proofs.kept.Record.Laws as R′
+use Rattle.border.specs.Kept.{record-at, put-record, slot}
+use Rattle.border.specs.declared.kept.Kept.{Kept}
+use Rattle.border.proofs.kept.Kept as K
+use Rattle.border.proofs.kept.Kept.Laws as K′
+use Rattle.border.proofs.kept.Record as R
+use Rattle.border.proofs.kept.Record.Laws as R′
 use Rattle.host.specs.Promised.{Steps, Steps-one}
 use Rattle.host.specs.declared.one.Moved.{Moved}
 use Rattle.host.proofs.one.Moved as S
@@ -131,7 +133,9 @@ module _ {M : Type 1} (𝓤 : URA M) (H : Heap 𝓤) (A : Atoms 𝓤) (W : Given
         enter ! C Λ code.function (sliceVal (xk .ptr) (length (xk .now)) ∷ sliceVal (xw .ptr) (length (xw .now)) ∷ vptr b o ∷ vint w32 n ∷ []) _ $
         alloc1 ! (λ l₀. alloc1 ! (λ l₁. alloc1 ! (λ l₂. alloc1 ! (λ l₃. alloc1 ! (λ l₄. alloc1 ! (λ l₅. alloc1 ! (λ l₆. alloc1 ! (λ l₇. alloc1 ! (λ l₈. alloc1 ! (λ l₉. alloc1 ! (λ l₁₀. alloc1 ! (λ l₁₁. alloc1 ! (λ l₁₂. alloc1 ! (λ l₁₃. alloc1 ! (λ l₁₄. alloc1 ! (λ l₁₅. alloc1 ! (λ l₁₆. alloc1 ! (λ l₁₇. alloc0 ! $ params1 ! $
         pass1 ! (init ! 32 refl (mut-slice-lawful 𝓤 H A W (named 0) κ₀ i32 .typed xk _ isk .0)) $ pass1 ! (init ! 30 refl (mut-slice-lawful 𝓤 H A W (named 1) κ₁ u32 .typed xw _ isw .0)) $ pass1 ! (init ! 28 refl (tt, tt)) $ pass1 ! (init ! 26 refl (tt, record { fits = fits })) $ pass0 ! $
-        -- [_17 (0); _16 (2); _15 (4); _14 (6); _13 (8); _12 (10); _11 (12); _10 (14); _9 (16); _8 (18); _7 (20); _6 (22); _5 (24); _4 (26); _3 (28); _2 (30); _1 (32); _0 (34); obs (36); the borrow; κ₂; κ₀ and κ₁; the slices]
+        -- [_17 (0); _16 (2); _15 (4); _14 (6); _13 (8); _12 (10); _11 (12); _10 (14); _9 (16); _8 (18); _7 (20); _6
+        -- (22); _5 (24); _4 (26); _3 (28); _2 (30); _1 (32); _0 (34); obs (36); the borrow; κ₂; κ₀ and κ₁; the
+        -- slices]
         use0 W (raw (Slot 𝓤 H A at-mem run .pre (to-slot 𝓤 H A at-mem run n))) (goes-slot 𝓤 H A at-mem run W n fits) $
         calls-at ! fm (Slot 𝓤 H A at-mem run) known-slot (to-slot 𝓤 H A at-mem run n) (and-then ! (load ! (from ! (stop !)) (look ! 27 refl)) (no-more !)) (λ u.
         use1 W (later (some (λ (a : ℕ). (‵ ftrue ⊛ ‵ (usize .own a (u ∷ []))) ⊛ raw (ensured 𝓤 H A slot-fn.ended (slot-fn.clauses 𝓤 H A at-mem run) tt (n, tt) tt a)))) (id⊢ 𝓤 _) $ await ! tt $ pick ! (λ a.
@@ -145,7 +149,8 @@ module _ {M : Type 1} (𝓤 : URA M) (H : Heap 𝓤) (A : Atoms 𝓤) (W : Given
         assigns ! (agg ! (and-then ! (load ! (from ! (stop !)) (look ! 16 refl)) (and-then ! (load ! (from ! (fld ! refl (stop !))) (look-in ! 30 (sub ! 1 refl (whole !)))) (no-more !)))) (from ! (stop !)) (init ! 14 refl (tt, (tt, (record { fits = isw .0 .1 .0 }, tt)))) $
         move ! (36 ∷ 37 ∷ 38 ∷ []) $ opens ! tt K.the-row {h = h} b o (λ vs. spelt ! K.the-row (Is K.the-row) (shows 𝓤 H A K.the-row) kept-vals (LL.tells K.the-type K′.the-laws) fullShare h vs b o $
         move ! (1 ∷ []) $ peeks ! K.the-row (Is K.the-row) (shows 𝓤 H A K.the-row) h (kept-vals h) (λ isK. move ! (1 ∷ 0 ∷ []) $
-        -- [the table's cell; what it owns; the open borrow; obs; auth; _17 (5); …, each 5 on; κ₀ and κ₁ (41); the slices (42)]
+        -- [the table's cell; what it owns; the open borrow; obs; auth; _17 (5); …, each 5 on; κ₀ and κ₁ (41); the
+        -- slices (42)]
         assigns ! (of-opd ! (load ! (from ! (hop ! (look ! 33 refl) (fld ! refl (stop !)))) (look-in ! 0 (sub ! 0 refl (whole !))))) (from ! (stop !)) (init ! 17 refl (tt, record { fits = LL.owed K.the-type K′.the-laws h (kept-vals h) isK .0 .1 })) $
         use2 W (‵ (partAt K.the-row fullShare h b o)) (lies-in 𝓤 H A W K.the-row h b o (kept-vals h)) $
         -- [the table; the open borrow; obs; auth; _17 (4); …, each 4 on; κ₀ and κ₁ (40); the slices (41)]
@@ -164,10 +169,12 @@ module _ {M : Type 1} (𝓤 : URA M) (H : Heap 𝓤) (A : Atoms 𝓤) (W : Given
         -- what the callee ensures, at some last lists
         split ! $ move ! (1 ∷ []) $ use1 W (some (λ (zs : List ℤ × (List ℕ × (Unit {0} × (Unit {0} × (Unit {0} × Unit {0}))))). ‵ (lasts step.ended (κ₀, (κ₁, tt)) (xk, (xw, (h .count, (n, (record-at h i, tt))))) zs) ⊛ raw (fact 𝓤 (Steps-one (memory-of (xk .now) (xw .now)) (h .count) n (record-at h i) y (zs .0) (zs .1 .0))))) (id⊢ 𝓤 _) $ pick ! (λ zs.
         split ! $ move ! (1 ∷ []) $ heard ! (Steps-one (memory-of (xk .now) (xw .now)) (h .count) n (record-at h i) y (zs .0) (zs .1 .0)) (λ stepped. fsplit ! $ fsplit ! $ move ! (1 ∷ []) $ feqL ! (λ lk. move ! (1 ∷ []) $ fsplit ! $ fsplit ! $ move ! (1 ∷ []) $ feqL ! (λ lw.
-        -- [the last words; …; the last keys; the tokens and what y owns; the table; the open borrow; obs; auth; _17; …]
+        -- [the last words; …; the last keys; the tokens and what y owns; the table; the open borrow; obs; auth; _17;
+        -- …]
         move ! (3 ∷ []) $ split ! $ move ! (1 ∷ []) $
         facts ! S.the-row (Is S.the-row) (shows 𝓤 H A S.the-row) y (v ∷ []) (λ isS.
-        -- [κ₀ and κ₁; the last words; …; the last keys; the table (4); the open borrow; obs; auth; _17 (8); …, each 8 on]
+        -- [κ₀ and κ₁; the last words; …; the last keys; the table (4); the open borrow; obs; auth; _17 (8); …, each
+        -- 8 on]
         land ! (from ! (stop !)) (init ! 30 refl (LL.lawful S.the-type S′.the-laws 𝓤 H A W .typed y _ isS .0)) $
         rewrite ! 30 (λ (u : Val). ‵ (fat fullShare S′.mir l₆ 0 u)) (ap only (LL.tells S.the-type S′.the-laws y (v ∷ []) isS)) refl $
         assigns ! (bin ! (load ! (from ! (stop !)) (look ! 32 refl)) (lit ! tt) (record { fits = far n })) (from ! (stop !)) (store ! 18 refl (tt, record { fits = far n })) $
@@ -175,10 +182,12 @@ module _ {M : Type 1} (𝓤 : URA M) (H : Heap 𝓤) (A : Atoms 𝓤) (W : Given
         assigns ! (bin ! (load ! (from ! (stop !)) (look ! 10 refl)) (load ! (from ! (stop !)) (look ! 18 refl)) tt) (from ! (stop !)) (init ! 8 refl (tt, tt)) $
         rewrite ! 8 (λ (p : ℕ). ‵ (fat fullShare tyPtr l₁₇ 0 (vptr b p))) (at-record o i) refl $
         move ! (4 ∷ []) $ opens-record ! h b o i (y .kept) (slot-below n) (λ _.
-        -- [the record's cell; the way back; κ₀ and κ₁; the last words; …; the last keys; the open borrow; obs; auth; _17 (9); …, each 9 on]
+        -- [the record's cell; the way back; κ₀ and κ₁; the last words; …; the last keys; the open borrow; obs; auth;
+        -- _17 (9); …, each 9 on]
         assigns ! (of-opd ! (load ! (from ! (fld ! refl (stop !))) (look-in ! 31 (sub ! 0 refl (whole !))))) (from ! (hop ! (look ! 9 refl) (stop !))) (store-raw ! 0 refl (LL.lawful R.the-type R′.the-laws 𝓤 H A W .typed (y .kept) _ (is-kept y v isS) .0)) $
         shuts-record ! h b o i (y .kept) (is-kept y v isS) $
-        -- [the table; κ₀ and κ₁; the last words; …; the last keys; the open borrow (5); obs; auth; _17 (8); …, each 8 on]
+        -- [the table; κ₀ and κ₁; the last words; …; the last keys; the open borrow (5); obs; auth; _17 (8); …, each
+        -- 8 on]
         assigns ! (of-opd ! (load ! (from ! (fld ! refl (stop !))) (look-in ! 30 (sub ! 1 refl (whole !))))) (from ! (stop !)) (init ! 42 refl (tt, record { fits = told-fits y v isS })) $
         move ! (0 ∷ 5 ∷ 6 ∷ 7 ∷ []) $ close-ref ! tt (mem K.the-row) (put-record h i (y .kept)) {b = b} {o = o} $
         -- [obs; the borrow; κ₂; κ₀ and κ₁; the last words; …; the last keys; _17 (7); …, each 7 on]

@@ -1,4 +1,5 @@
--- The table is copied out of the shared reference and passed with the slices to the covered sweep, of which only its contract is known; the number that it tells is returned. A walk of the MIR by hand.
+-- The table is copied out of the shared reference and passed with the slices to the covered sweep, of which only its
+-- contract is known; the number that it tells is returned. A walk of the MIR by hand.
 use mathlib.Core.Path.{refl, ap}
 use Prim.Native.Nat.{ℕ, _<_, _^_}
 use mathlib.Core.List.{[], _∷_, List}
@@ -39,9 +40,9 @@ use denote.Triple.Table.{entered, cited}
 use denote.Triple.Clauses.{ensured, lasts}
 use denote.Triple.Walked.{says, Stays, stay-none-slice, stay-none-ref, gave-slice, walkOf, AllGo, goes-none-slice, goes-none-ref, goes-gave-slice, Walks, ends-at, walked, walk-meets}
 use Rattle.catalogue.specs.Lent.{memory-of}
-use Rattle.numbers.specs.declared.kept.Kept.{Kept}
-use Rattle.numbers.proofs.kept.Kept as K
-use Rattle.numbers.proofs.kept.Kept.Laws as K′
+use Rattle.border.specs.declared.kept.Kept.{Kept}
+use Rattle.border.proofs.kept.Kept as K
+use Rattle.border.proofs.kept.Kept.Laws as K′
 use Rattle.host.specs.Promised.{Sweeps}
 use Rattle.host.proofs.sweeps.sweep_kept as kept
 use Rattle.host.proofs.sweeps.sweep_kept.Symbol as kept-def
@@ -132,7 +133,8 @@ module _ {M : Type 1} (𝓤 : URA M) (H : Heap 𝓤) (A : Atoms 𝓤) (W : Given
         alloc1 ! (λ l₀. alloc1 ! (λ l₁. alloc1 ! (λ l₂. alloc1 ! (λ l₃. alloc1 ! (λ l₄. alloc1 ! (λ l₅. alloc1 ! (λ l₆. alloc1 ! (λ l₇. alloc1 ! (λ l₈. alloc1 ! (λ l₉. alloc1 ! (λ l₁₀. alloc0 ! $ params1 ! $
         pass1 ! (init ! 18 refl (shr-slice-lawful 𝓤 H A W (named 0) κ₀ i32 .typed xk _ isk .0)) $ pass1 ! (init ! 16 refl (shr-slice-lawful 𝓤 H A W (named 1) κ₁ u32 .typed xw _ isw .0)) $
         pass1 ! (init ! 14 refl (mut-slice-lawful 𝓤 H A W (named 2) κ₂ i32 .typed nk _ isnk .0)) $ pass1 ! (init ! 12 refl (mut-slice-lawful 𝓤 H A W (named 3) κ₃ u32 .typed nw _ isnw .0)) $ pass1 ! (init ! 10 refl (tt, tt)) $ pass0 ! $
-        -- [_10 (0); _9 (2); _8 (4); _7 (6); _6 (8); _5 (10); _4 (12); _3 (14); _2 (16); _1 (18); _0 (20); the shared borrow (22); κ₄; κ₀ to κ₃; the slices; OwnK; OwnW; OwnT]
+        -- [_10 (0); _9 (2); _8 (4); _7 (6); _6 (8); _5 (10); _4 (12); _3 (14); _2 (16); _1 (18); _0 (20); the shared
+        -- borrow (22); κ₄; κ₀ to κ₃; the slices; OwnK; OwnW; OwnT]
         assigns ! (addr ! (from ! (fld ! refl (hop ! (look-in ! 14 (sub ! 0 refl (whole !))) (stop !))))) (from ! (stop !)) (init ! 8 refl (tt, tt)) $
         assigns ! (agg ! (and-then ! (load ! (from ! (stop !)) (look ! 8 refl)) (and-then ! (load ! (from ! (fld ! refl (stop !))) (look-in ! 14 (sub ! 1 refl (whole !)))) (no-more !)))) (from ! (stop !)) (init ! 6 refl (tt, (tt, (record { fits = isnk .0 .1 .0 }, tt)))) $
         assigns ! (addr ! (from ! (fld ! refl (hop ! (look-in ! 12 (sub ! 0 refl (whole !))) (stop !))))) (from ! (stop !)) (init ! 4 refl (tt, tt)) $
@@ -153,7 +155,8 @@ module _ {M : Type 1} (𝓤 : URA M) (H : Heap 𝓤) (A : Atoms 𝓤) (W : Given
         -- [the last words; …; the last keys; the tokens and what y owns; κ₄; the shared borrow; _10; …]
         move ! (3 ∷ []) $ split ! $ move ! (1 ∷ []) $
         facts ! u64 (Is u64) (shows 𝓤 H A u64) y (v ∷ []) (λ isy.
-        -- [κ₀ to κ₃; the last words; …; the last keys; κ₄; the shared borrow; _10 (6); …, each 6 on; OwnK (28); OwnW; OwnT]
+        -- [κ₀ to κ₃; the last words; …; the last keys; κ₄; the shared borrow; _10 (6); …, each 6 on; OwnK (28);
+        -- OwnW; OwnT]
         land ! (from ! (stop !)) (init ! 26 refl (uint-lawful 𝓤 H A W w64 .typed y _ isy .0)) $
         rewrite ! 26 (λ (u : Val). ‵ (fat fullShare (tyInt w64) l₀ 0 u)) (ap only (isy .0)) refl $
         returns ! (look ! 26 refl) $ forget ! 6 refl $ forget ! 8 refl $ forget ! 10 refl $ forget ! 12 refl $ forget ! 14 refl $ forget ! 16 refl $ forget ! 18 refl $ forget ! 20 refl $ forget ! 22 refl $ forget ! 24 refl $ forget ! 26 refl $

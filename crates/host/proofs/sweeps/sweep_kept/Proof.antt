@@ -1,4 +1,4 @@
--- The number is that of the answer, and both new slices are as the covered call leaves them, with the table read back.
+-- The number is that of the answer, and both new slices are those of the covered call, with the table read back.
 use Rattle.host.proofs.Tables.{sweep-told}
 use borrow.Author.Needs.{needs}
 use Rattle.host.proofs.sweeps.sweep_kept.Statement.{statement}

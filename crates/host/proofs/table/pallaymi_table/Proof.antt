@@ -1,4 +1,5 @@
--- The table is copied out of the borrow and passed to the covered call, of which only its contract is known; what comes back is stored over it, and the number is returned. A walk of the MIR by hand.
+-- The table is copied out of the borrow and passed to the covered call, of which only its contract is known; what
+-- comes back is stored over it, and the number is returned. A walk of the MIR by hand.
 use mathlib.Core.Path.{refl, ap}
 use Prim.Native.Nat.{ℕ, _<_, _^_}
 use mathlib.Core.List.{[], _∷_, List}
@@ -37,9 +38,9 @@ use denote.Triple.Spec.{Meets, tripleOf}
 use denote.Triple.Table.{entered, cited}
 use denote.Triple.Clauses.{ensured, lasts}
 use denote.Triple.Walked.{says, Stays, stay-none, stay-ref, walkOf, AllGo, goes-none, goes-ref, Walks, ends-at, walked, walk-meets}
-use Rattle.numbers.specs.declared.kept.Kept.{Kept}
-use Rattle.numbers.proofs.kept.Kept as K
-use Rattle.numbers.proofs.kept.Kept.Laws as K′
+use Rattle.border.specs.declared.kept.Kept.{Kept}
+use Rattle.border.proofs.kept.Kept as K
+use Rattle.border.proofs.kept.Kept.Laws as K′
 use Rattle.host.specs.Promised.{Makes-table}
 use Rattle.host.specs.declared.table.Tabled.{Tabled}
 use Rattle.host.proofs.table.Tabled as S

@@ -1,4 +1,6 @@
--- The worker's record is read out of the borrowed table and passed with the slices to the covered call, of which only its contract is known; what comes back is stored over the record, and the number is returned. A walk of the MIR by hand.
+-- The worker's record is read out of the borrowed table and passed with the slices to the covered call, of which
+-- only its contract is known; what comes back is stored over the record, and the number is returned. A walk of the
+-- MIR by hand.
 use mathlib.Core.Path.{_≡_, refl, _∙_, ap}
 use Prim.Native.Nat.{ℕ, _<_, _^_}
 use mathlib.Core.List.{[], _∷_, List}
@@ -43,13 +45,14 @@ use denote.Triple.Table.{entered, cited}
 use denote.Triple.Clauses.{ensured, lasts}
 use denote.Triple.Walked.{says, Stays, stay-none, stay-none-slice, stay-ref, walkOf, AllGo, goes-none, goes-none-slice, goes-ref, Walks, ends-at, walked, walk-meets}
 use Rattle.catalogue.specs.Lent.{memory-of}
-use Rattle.numbers.specs.Kept.{record-at, put-record, slot}
-use Rattle.numbers.specs.declared.kept.Kept.{Kept}
-use Rattle.numbers.specs.declared.kept.Record.{Record}
-use Rattle.numbers.proofs.kept.Kept as K
-use Rattle.numbers.proofs.kept.Kept.Laws as K′
-use Rattle.numbers.proofs.kept.Record as R
-use Rattle.numbers.proofs.kept.Record.Laws as R′
+use Rattle.catalogue.specs.Workers.{asks}
+use Rattle.border.specs.Kept.{record-at, put-record, slot}
+use Rattle.border.specs.declared.kept.Kept.{Kept}
+use Rattle.border.specs.declared.kept.Record.{Record}
+use Rattle.border.proofs.kept.Kept as K
+use Rattle.border.proofs.kept.Kept.Laws as K′
+use Rattle.border.proofs.kept.Record as R
+use Rattle.border.proofs.kept.Record.Laws as R′
 use Rattle.host.specs.Promised.{Takes-up, Takes-up-one}
 use Rattle.host.specs.declared.one.Moved.{Moved}
 use Rattle.host.proofs.one.Moved as S
@@ -100,7 +103,7 @@ module _ {M : Type 1} (𝓤 : URA M) (H : Heap 𝓤) (A : Atoms 𝓤) (W : Given
   abbrev Post : Val → SProp 𝓤
   Post = walkOf 𝓤 H A f.ended stayed (f.clauses 𝓤 H A at-mem run) .post (((κ₀, (κ₁, (κ₂, tt))), (q₀, (q₁, (q₂, tt))), tt, x, at), tt)
 
-  exits : (h′ : Kept) (told : ℕ) → told < 2 ^ 64 → Takes-up (memory-of (xk .now) (xw .now)) h n cd k l told h′
+  exits : (h′ : Kept) (told : ℕ) → told < 2 ^ 64 → Takes-up (memory-of (xk .now) (xw .now)) h n (asks cd k l) told h′
       → ent 𝓤 (⋆ 𝓤 H A (‵ (flft κ₀ q₀) ∷ ‵ (flft κ₁ q₁) ∷ ‵ (flft κ₂ q₂) ∷ ‵ (fobs γ (K.the-row .coded .code h′)) ∷ ‵ (fbor κ₂ (Body (mem K.the-row) b o γ)) ∷ ‵ OwnK ∷ ‵ OwnW ∷ [])) (Post (vint w64 told))
   exits h′ told small takes =
       qed W (‵ (flft κ₀ q₀) ∷ ‵ (flft κ₁ q₁) ∷ ‵ (flft κ₂ q₂) ∷ ‵ (fobs γ (K.the-row .coded .code h′)) ∷ ‵ (fbor κ₂ (Body (mem K.the-row) b o γ)) ∷ ‵ OwnK ∷ ‵ OwnW ∷ []) ∵
@@ -133,8 +136,8 @@ module _ {M : Type 1} (𝓤 : URA M) (H : Heap 𝓤) (A : Atoms 𝓤) (W : Given
       move ! (2 ∷ 0 ∷ []) $ fjoin ! $ move ! (1 ∷ 0 ∷ []) $ fjoin ! $ move ! (1 ∷ 0 ∷ []) $ join ! $ frame ! $ done !
 
   -- of what `take_up_one` ensures, the clause alone
-  take-of : (y : Moved) → ent 𝓤 (ensured 𝓤 H A take.ended (take.clauses 𝓤 H A at-mem run) (κ₀, (κ₁, tt)) given-one tt y) (fact 𝓤 (Takes-up-one (memory-of (xk .now) (xw .now)) (h .count) n (record-at h i) cd k l y))
-  take-of y = exE 𝓤 _ (λ ws. snd∗ 𝓤 (sem 𝓤 H A (lasts take.ended (κ₀, (κ₁, tt)) given-one ws)) (fact 𝓤 (Takes-up-one (memory-of (xk .now) (xw .now)) (h .count) n (record-at h i) cd k l y)))
+  take-of : (y : Moved) → ent 𝓤 (ensured 𝓤 H A take.ended (take.clauses 𝓤 H A at-mem run) (κ₀, (κ₁, tt)) given-one tt y) (fact 𝓤 (Takes-up-one (memory-of (xk .now) (xw .now)) (h .count) n (record-at h i) (asks cd k l) y))
+  take-of y = exE 𝓤 _ (λ ws. snd∗ 𝓤 (sem 𝓤 H A (lasts take.ended (κ₀, (κ₁, tt)) given-one ws)) (fact 𝓤 (Takes-up-one (memory-of (xk .now) (xw .now)) (h .count) n (record-at h i) (asks cd k l) y)))
 
   module _ (C : Calls 𝓤 H) (Λ : Loops 𝓤 H) (fm : FmC 𝓤 H (W .laws) C) (known-slot : Triple 𝓤 (C #host·slot) (Slot 𝓤 H A at-mem run)) (known : Triple 𝓤 (C #host·take-up-one) (Take 𝓤 H A at-mem run)) where
     abbrev passed : List Val
@@ -157,7 +160,9 @@ module _ {M : Type 1} (𝓤 : URA M) (H : Heap 𝓤) (A : Atoms 𝓤) (W : Given
         alloc1 ! (λ l₀. alloc1 ! (λ l₁. alloc1 ! (λ l₂. alloc1 ! (λ l₃. alloc1 ! (λ l₄. alloc1 ! (λ l₅. alloc1 ! (λ l₆. alloc1 ! (λ l₇. alloc1 ! (λ l₈. alloc1 ! (λ l₉. alloc1 ! (λ l₁₀. alloc1 ! (λ l₁₁. alloc1 ! (λ l₁₂. alloc1 ! (λ l₁₃. alloc1 ! (λ l₁₄. alloc1 ! (λ l₁₅. alloc1 ! (λ l₁₆. alloc0 ! $ params1 ! $
         pass1 ! (init ! 30 refl (shr-slice-lawful 𝓤 H A W (named 0) κ₀ i32 .typed xk _ isk .0)) $ pass1 ! (init ! 28 refl (shr-slice-lawful 𝓤 H A W (named 1) κ₁ u32 .typed xw _ isw .0)) $ pass1 ! (init ! 26 refl (tt, tt)) $
         pass1 ! (init ! 24 refl (tt, record { fits = fits })) $ pass1 ! (init ! 22 refl (tt, record { fits = cd-fits })) $ pass1 ! (init ! 20 refl (sint-lawful 𝓤 H A W w32 .typed k _ k-is .0)) $ pass1 ! (init ! 18 refl (sint-lawful 𝓤 H A W w32 .typed l _ l-is .0)) $ pass0 ! $
-        -- [_16 (0); _15 (2); _14 (4); _13 (6); _12 (8); _11 (10); _10 (12); _9 (14); _8 (16); _7 (18); _6 (20); _5 (22); _4 (24); _3 (26); _2 (28); _1 (30); _0 (32); obs (34); the borrow; κ₂; κ₀ and κ₁; OwnK and OwnW; OwnK; OwnW]
+        -- [_16 (0); _15 (2); _14 (4); _13 (6); _12 (8); _11 (10); _10 (12); _9 (14); _8 (16); _7 (18); _6 (20); _5
+        -- (22); _4 (24); _3 (26); _2 (28); _1 (30); _0 (32); obs (34); the borrow; κ₂; κ₀ and κ₁; OwnK and OwnW;
+        -- OwnK; OwnW]
         use0 W (raw (Slot 𝓤 H A at-mem run .pre (to-slot 𝓤 H A at-mem run n))) (goes-slot 𝓤 H A at-mem run W n fits) $
         calls-at ! fm (Slot 𝓤 H A at-mem run) known-slot (to-slot 𝓤 H A at-mem run n) (and-then ! (load ! (from ! (stop !)) (look ! 25 refl)) (no-more !)) (λ u.
         use1 W (later (some (λ (a : ℕ). (‵ ftrue ⊛ ‵ (usize .own a (u ∷ []))) ⊛ raw (ensured 𝓤 H A slot-fn.ended (slot-fn.clauses 𝓤 H A at-mem run) tt (n, tt) tt a)))) (id⊢ 𝓤 _) $ await ! tt $ pick ! (λ a.
@@ -167,10 +172,12 @@ module _ {M : Type 1} (𝓤 : URA M) (H : Heap 𝓤) (A : Atoms 𝓤) (W : Given
         rewrite ! 16 (λ (v : Val). ‵ (fat fullShare (tyInt w64) l₈ 0 v)) (ap only (isa .0) ∙ ap (vint w64) ea) refl $
         move ! (34 ∷ 35 ∷ 36 ∷ []) $ opens ! tt K.the-row {h = h} b o (λ vs. spelt ! K.the-row (Is K.the-row) (shows 𝓤 H A K.the-row) kept-vals (LL.tells K.the-type K′.the-laws) fullShare h vs b o $
         move ! (1 ∷ []) $ peeks ! K.the-row (Is K.the-row) (shows 𝓤 H A K.the-row) h (kept-vals h) (λ isK. move ! (1 ∷ 0 ∷ []) $
-        -- [the table's cell; what it owns; the open borrow; obs; auth; _16 (5); …, each 5 on; κ₀ and κ₁ (39); OwnK and OwnW (40); OwnK; OwnW]
+        -- [the table's cell; what it owns; the open borrow; obs; auth; _16 (5); …, each 5 on; κ₀ and κ₁ (39); OwnK
+        -- and OwnW (40); OwnK; OwnW]
         assigns ! (of-opd ! (load ! (from ! (hop ! (look ! 31 refl) (fld ! refl (stop !)))) (look-in ! 0 (sub ! 0 refl (whole !))))) (from ! (stop !)) (init ! 17 refl (tt, record { fits = LL.owed K.the-type K′.the-laws h (kept-vals h) isK .0 .1 })) $
         use2 W (‵ (partAt K.the-row fullShare h b o)) (lies-in 𝓤 H A W K.the-row h b o (kept-vals h)) $
-        -- [the table; the open borrow; obs; auth; _16 (4); …, each 4 on; κ₀ and κ₁ (38); OwnK and OwnW (39); OwnK; OwnW]
+        -- [the table; the open borrow; obs; auth; _16 (4); …, each 4 on; κ₀ and κ₁ (38); OwnK and OwnW (39); OwnK;
+        -- OwnW]
         assigns ! (bin ! (load ! (from ! (stop !)) (look ! 20 refl)) (lit ! tt) (record { fits = far n })) (from ! (stop !)) (init ! 14 refl (tt, record { fits = far n })) $
         assigns ! (addr ! (from ! (hop ! (look ! 30 refl) (fld ! refl (stop !))))) (from ! (stop !)) (init ! 12 refl (tt, tt)) $
         assigns ! (bin ! (load ! (from ! (stop !)) (look ! 12 refl)) (load ! (from ! (stop !)) (look ! 14 refl)) tt) (from ! (stop !)) (init ! 10 refl (tt, tt)) $
@@ -184,7 +191,7 @@ module _ {M : Type 1} (𝓤 : URA M) (H : Heap 𝓤) (A : Atoms 𝓤) (W : Given
         -- [the callee's pre; the table; the open borrow; obs; auth; _16 (5); …, each 5 on; OwnK (39); OwnW]
         calls-at ! fm (Take 𝓤 H A at-mem run) known to-take (and-then ! (load ! (from ! (stop !)) (look ! 35 refl)) (and-then ! (load ! (from ! (stop !)) (look ! 33 refl)) (and-then ! (load ! (from ! (stop !)) (look ! 17 refl)) (and-then ! (load ! (from ! (stop !)) (look ! 29 refl)) (and-then ! (load ! (from ! (stop !)) (look ! 9 refl)) (and-then ! (load ! (from ! (stop !)) (look ! 27 refl)) (and-then ! (load ! (from ! (stop !)) (look ! 25 refl)) (and-then ! (load ! (from ! (stop !)) (look ! 23 refl)) (no-more !))))))))) (λ v.
         use1 W (later (some (λ (y : Moved). ((‵ (flft κ₀ q₀) ⊛ ‵ (flft κ₁ q₁) ⊛ ‵ ftrue) ⊛ ‵ (S.the-row .own y (v ∷ []))) ⊛ raw (ensured 𝓤 H A take.ended (take.clauses 𝓤 H A at-mem run) (κ₀, (κ₁, tt)) given-one tt y)))) (id⊢ 𝓤 _) $ await ! tt $ pick ! (λ y.
-        split ! $ move ! (1 ∷ []) $ use1 W (raw (fact 𝓤 (Takes-up-one (memory-of (xk .now) (xw .now)) (h .count) n (record-at h i) cd k l y))) (take-of y) $ heard ! (Takes-up-one (memory-of (xk .now) (xw .now)) (h .count) n (record-at h i) cd k l y) (λ taken. split ! $ move ! (1 ∷ []) $
+        split ! $ move ! (1 ∷ []) $ use1 W (raw (fact 𝓤 (Takes-up-one (memory-of (xk .now) (xw .now)) (h .count) n (record-at h i) (asks cd k l) y))) (take-of y) $ heard ! (Takes-up-one (memory-of (xk .now) (xw .now)) (h .count) n (record-at h i) (asks cd k l) y) (λ taken. split ! $ move ! (1 ∷ []) $
         facts ! S.the-row (Is S.the-row) (shows 𝓤 H A S.the-row) y (v ∷ []) (λ isS.
         -- [κ₀ and κ₁; the table; the open borrow; obs; auth; _16 (5); …, each 5 on; OwnK (39); OwnW]
         land ! (from ! (stop !)) (init ! 19 refl (LL.lawful S.the-type S′.the-laws 𝓤 H A W .typed y _ isS .0)) $

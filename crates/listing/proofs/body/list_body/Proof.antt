@@ -1,4 +1,4 @@
--- The lines of the vertices, and behind them those of the edges, are the lines of both.
+-- The lines of the vertices, and after them those of the edges, are the lines of both.
 use Rattle.listing.proofs.Whole.{whole-cases}
 use borrow.Author.Needs.{needs}
 use Rattle.listing.proofs.body.list_body.Statement.{statement}

@@ -4,17 +4,14 @@ use borrow.Author.Needs.{needs}
 use Rattle.listing.proofs.contents.put_contents.Statement.{statement}
 use Rattle.listing.proofs.contents.put_contents.Tie as tie
 
-live-vertices-requires : tie.Need-live-vertices-requires
-live-vertices-requires c κs = search needs
+counts-requires : tie.Need-counts-requires
+counts-requires c κs = search needs
 
-added-edges-requires : tie.Need-added-edges-requires
-added-edges-requires c κs = search needs
+cast-vertices : tie.Need-cast-vertices
+cast-vertices c = search contents-cases
 
-cast-put-three : tie.Need-cast-put-three
-cast-put-three c = search contents-cases
-
-cast-put-three-2 : tie.Need-cast-put-three-2
-cast-put-three-2 c = search contents-cases
+cast-edges : tie.Need-cast-edges
+cast-edges c = search contents-cases
 
 put-three-requires : tie.Need-put-three-requires
 put-three-requires c κs = search needs
@@ -29,10 +26,9 @@ pub put-contents-spec : {M : Type 1} → statement M
 put-contents-spec =
     tie.close
     (tie.spec
-    live-vertices-requires
-    added-edges-requires
-    cast-put-three
-    cast-put-three-2
+    counts-requires
+    cast-vertices
+    cast-edges
     put-three-requires
     same-length
     returns)

@@ -23,7 +23,7 @@ abbrev count-added-below : ℕ → In 1 count-added-kinds.ps
 count-added-below t =
     and 1 count-added-kinds.ps (falls 1 count-added-kinds.ps _<_ μ-count-added t) count-added.Pre
 
--- what each callee asks and tells, where the measure is t
+-- what each callee asks and promises, where the measure is t
 abbrev heard : ℕ → count-added-lts.Claims
 heard t = (
   next-edge-reads.Asked,

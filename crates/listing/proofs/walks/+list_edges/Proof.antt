@@ -26,7 +26,7 @@ abbrev list-edges-below : ℕ → In 3 list-edges-kinds.ps
 list-edges-below t =
     and 3 list-edges-kinds.ps (falls 3 list-edges-kinds.ps _<_ μ-list-edges t) list-edges.Pre
 
--- what each callee asks and tells, where the measure is t
+-- what each callee asks and promises, where the measure is t
 abbrev heard : ℕ → list-edges-lts.Claims
 heard t = (
   next-vertex-reads.Asked,

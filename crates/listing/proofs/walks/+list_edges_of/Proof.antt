@@ -29,7 +29,7 @@ list-edges-of-below t =
     (falls 3 list-edges-of-kinds.ps _<_ μ-list-edges-of t)
     list-edges-of.Pre
 
--- what each callee asks and tells, where the measure is t
+-- what each callee asks and promises, where the measure is t
 abbrev heard : ℕ → list-edges-of-lts.Claims
 heard t = (
   next-edge-reads.Asked,

@@ -29,7 +29,7 @@ list-vertices-below t =
     (falls 3 list-vertices-kinds.ps _<_ μ-list-vertices t)
     list-vertices.Pre
 
--- what each callee asks and tells, where the measure is t
+-- what each callee asks and promises, where the measure is t
 abbrev heard : ℕ → list-vertices-lts.Claims
 heard t = (
   next-vertex-reads.Asked,

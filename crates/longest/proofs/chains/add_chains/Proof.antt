@@ -1,4 +1,4 @@
--- The distance climbs to the ninth vertex behind.
+-- The distance climbs to the ninth vertex after.
 use Prim.Native.Nat.{_-_}
 use mathlib.Core.Path.{_≡_}
 use lib.ListN.{length}

@@ -1,5 +1,5 @@
 -- No request left, a line that is none, or the request that stands there is taken up.
-use Rattle.run.proofs.TurnLaws.{taking, taken-line, key-args}
+use Rattle.run.proofs.TurnLaws.{taking, taken-line}
 use borrow.Author.Needs.{needs}
 use Rattle.run.proofs.takes.take_next.Statement.{statement}
 use Rattle.run.proofs.takes.take_next.Tie as tie
@@ -52,10 +52,9 @@ array-write-counts c = search needs
 returns-3 : tie.Need-returns-3
 returns-3 c =
     let up = c .before .before .before in
-    let line = up .before .before .before .before .before in
+    let line = up .before .before .before in
     let read = line .before .before in
-    taken-line _ _ _ _ (read .before .before .if1 .left) _ (read .read-request .ensures) _ _ (line .request .given .1) _ _ _ (up .take-up .ensures)
-    (search key-args) (search key-args)
+    taken-line _ _ _ _ (read .before .before .if1 .left) _ (read .read-request .ensures) _ _ (line .request .given .1) _ (up .take-up .ensures)
 
 pub take-next-spec : {M : Type 1} → statement M
 take-next-spec =

@@ -1,4 +1,4 @@
--- A busy worker steps and its answer is told; an idle one takes up its next request.
+-- A busy worker steps and its answer is recorded; an idle one takes up its next request.
 use Rattle.run.proofs.TurnLaws.{on-worker, step-turn, take-turn}
 use Rattle.workers.proofs.CheckLaws.{worker-below}
 use borrow.Author.Needs.{needs}

@@ -1,46 +1,50 @@
--- A minus chooses the opposite of the number behind it, and any other byte the number itself.
-use Rattle.script.proofs.KeyLaws.{key-cases}
+-- The digits are a key where a word ends after them and the key is not reserved.
+use Rattle.script.proofs.NumberLaws.{key-cases}
 use borrow.Author.Needs.{needs}
 use Rattle.script.proofs.keys.read_key.Statement.{statement}
 use Rattle.script.proofs.keys.read_key.Tie as tie
 
+read-signed-requires : tie.Need-read-signed-requires
+read-signed-requires c κs = search needs
+
+enum-known-key : tie.Need-enum-known-key
+enum-known-key c = search needs
+
+enum-told : tie.Need-enum-told
+enum-told c = search needs
+
 returns : tie.Need-returns
 returns c = search key-cases
 
-shared-slice-read-if2 : tie.Need-shared-slice-read-if2
-shared-slice-read-if2 c = search needs
+end-at-requires : tie.Need-end-at-requires
+end-at-requires c κs = search needs
 
-add-read-number : tie.Need-add-read-number
-add-read-number c = search needs
+enum-known-next : tie.Need-enum-known-next
+enum-known-next c = search needs
 
-read-number-requires : tie.Need-read-number-requires
-read-number-requires c κs = search needs
-
-negative-key-requires : tie.Need-negative-key-requires
-negative-key-requires c κs = search key-cases
+enum-told-2 : tie.Need-enum-told-2
+enum-told-2 c = search needs
 
 returns-2 : tie.Need-returns-2
 returns-2 c = search key-cases
 
-read-number-requires-2 : tie.Need-read-number-requires-2
-read-number-requires-2 c κs = search needs
-
-plain-key-requires : tie.Need-plain-key-requires
-plain-key-requires c κs = search key-cases
-
 returns-3 : tie.Need-returns-3
 returns-3 c = search key-cases
+
+returns-4 : tie.Need-returns-4
+returns-4 c = search key-cases
 
 pub read-key-spec : {M : Type 1} → statement M
 read-key-spec =
     tie.close
     (tie.spec
+    read-signed-requires
+    enum-known-key
+    enum-told
     returns
-    shared-slice-read-if2
-    add-read-number
-    read-number-requires
-    negative-key-requires
+    end-at-requires
+    enum-known-next
+    enum-told-2
     returns-2
-    read-number-requires-2
-    plain-key-requires
-    returns-3)
+    returns-3
+    returns-4)

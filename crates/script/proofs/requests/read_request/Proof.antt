@@ -1,4 +1,4 @@
--- A code that is known leaves the keys, and any other first word makes the line bad.
+-- The keys follow a code that is known, and any other first word makes the line bad.
 use Rattle.script.proofs.RequestLaws.{request-cases}
 use borrow.Author.Needs.{needs}
 use Rattle.script.proofs.requests.read_request.Statement.{statement}
@@ -7,14 +7,11 @@ use Rattle.script.proofs.requests.read_request.Tie as tie
 read-number-requires : tie.Need-read-number-requires
 read-number-requires c κs = search needs
 
-enum-told : tie.Need-enum-told
-enum-told c = search needs
-
-enum-told-2 : tie.Need-enum-told-2
-enum-told-2 c = search needs
-
 enum-known-value : tie.Need-enum-known-value
 enum-known-value c = search needs
+
+enum-told : tie.Need-enum-told
+enum-told c = search needs
 
 returns : tie.Need-returns
 returns c = search request-cases
@@ -39,9 +36,8 @@ read-request-spec =
     tie.close
     (tie.spec
     read-number-requires
-    enum-told
-    enum-told-2
     enum-known-value
+    enum-told
     returns
     returns-2
     read-keys-requires

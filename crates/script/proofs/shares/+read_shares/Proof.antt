@@ -22,7 +22,7 @@ abbrev read-shares-below : ℕ → In 1 read-shares-kinds.ps
 read-shares-below t =
     and 1 read-shares-kinds.ps (falls 1 read-shares-kinds.ps _<_ μ-read-shares t) read-shares.Pre
 
--- what each callee asks and tells, where the measure is t
+-- what each callee asks and promises, where the measure is t
 abbrev heard : ℕ → read-shares-lts.Claims
 heard t = (
   skip-reads.Asked,

@@ -1,5 +1,5 @@
 -- Some turns are checked by the callee, and none are an empty line.
-use Rattle.script.proofs.ScheduleLaws.{schedule-cases}
+use Rattle.script.proofs.ScheduleLine.{schedule-cases}
 use borrow.Author.Needs.{needs}
 use Rattle.script.proofs.turns.check_schedule.Statement.{statement}
 use Rattle.script.proofs.turns.check_schedule.Tie as tie

@@ -1,4 +1,4 @@
--- The number told is the size of the set that the record after the step holds.
+-- The number returned is the size of the set that the record after the step holds.
 use borrow.Author.Needs.{needs}
 use Rattle.steps.proofs.carry.going.Statement.{statement}
 use Rattle.steps.proofs.carry.going.Tie as tie

@@ -47,10 +47,10 @@ idle-requires : tie.Need-idle-requires
 idle-requires c κs = search needs
 
 returns : tie.Need-returns
-returns c = search needs
+returns c = search carried
 
 returns-2 : tie.Need-returns-2
-returns-2 c = search needs
+returns-2 c = search carried
 
 returns-3 : tie.Need-returns-3
 returns-3 c = search carried

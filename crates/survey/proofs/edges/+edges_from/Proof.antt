@@ -23,7 +23,7 @@ abbrev edges-from-below : ℕ → In 2 edges-from-kinds.ps
 edges-from-below t =
     and 2 edges-from-kinds.ps (falls 2 edges-from-kinds.ps _<_ μ-edges-from t) edges-from.Pre
 
--- what each callee asks and tells, where the measure is t
+-- what each callee asks and promises, where the measure is t
 abbrev heard : ℕ → edges-from-lts.Claims
 heard t = (
   edge-sound-reads.Asked,

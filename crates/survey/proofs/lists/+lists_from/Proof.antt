@@ -24,7 +24,7 @@ abbrev lists-from-below : ℕ → In 2 lists-from-kinds.ps
 lists-from-below t =
     and 2 lists-from-kinds.ps (falls 2 lists-from-kinds.ps _<_ μ-lists-from t) lists-from.Pre
 
--- what each callee asks and tells, where the measure is t
+-- what each callee asks and promises, where the measure is t
 abbrev heard : ℕ → lists-from-lts.Claims
 heard t = (
   within-limit-reads.Asked,

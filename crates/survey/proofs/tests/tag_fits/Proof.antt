@@ -1,4 +1,4 @@
--- Each way out is a case of the definition, by who asks.
+-- Each way out is a case of the definition, by the call that asks.
 use Rattle.survey.proofs.Told.{told-ways}
 use borrow.Author.Needs.{needs}
 use Rattle.survey.proofs.tests.tag_fits.Statement.{statement}

@@ -22,7 +22,7 @@ abbrev walk-from-below : ℕ → In 2 walk-from-kinds.ps
 walk-from-below t =
     and 2 walk-from-kinds.ps (falls 2 walk-from-kinds.ps _<_ μ-walk-from t) walk-from.Pre
 
--- what each callee asks and tells, where the measure is t
+-- what each callee asks and promises, where the measure is t
 abbrev heard : ℕ → walk-from-lts.Claims
 heard t = (
   vertex-sound-reads.Asked,

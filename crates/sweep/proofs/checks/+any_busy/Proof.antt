@@ -1,4 +1,5 @@
--- The number of workers falls at each step, and each answer is the case of the definition that the worker below it chooses.
+-- The number of workers falls at each step.
+-- Each result is the case of the definition that the worker below it chooses.
 use Rattle.sweep.proofs.Busy.{busy-cases}
 use Prim.Native.Nat.{ℕ, _<_}
 use borrow.Fn.Kinds.{In}
@@ -21,7 +22,7 @@ abbrev any-busy-below : ℕ → In 0 any-busy-kinds.ps
 any-busy-below t =
     and 0 any-busy-kinds.ps (falls 0 any-busy-kinds.ps _<_ μ-any-busy t) any-busy.Pre
 
--- what each callee asks and tells, where the measure is t
+-- what each callee asks and promises, where the measure is t
 abbrev heard : ℕ → any-busy-lts.Claims
 heard t = (
   worker-at-reads.Asked,

@@ -1,4 +1,4 @@
--- One commit, behind the last vertex that was made.
+-- One commit, after the last vertex that was made.
 use Rattle.sweep.proofs.NodeLaws.{vertex-node}
 use borrow.Author.Needs.{needs}
 use Rattle.sweep.proofs.nodes.add_vertex.Statement.{statement}

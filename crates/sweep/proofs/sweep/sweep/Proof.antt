@@ -1,4 +1,4 @@
--- The two tests of the sizes are those of the definition, and the rest is what the walk of the checks leaves.
+-- The two tests of the sizes are those of the definition, and the rest follows from the other checks.
 use Rattle.sweep.proofs.Refusals.{call-cases}
 use Rattle.memory.proofs.Sizes.{sized-flag}
 use borrow.Author.Needs.{needs}

@@ -23,7 +23,7 @@ abbrev sweep-edges-below : ℕ → In 5 sweep-edges-kinds.ps
 sweep-edges-below t =
     and 5 sweep-edges-kinds.ps (falls 5 sweep-edges-kinds.ps _<_ μ-sweep-edges t) sweep-edges.Pre
 
--- what each callee asks and tells, where the measure is t
+-- what each callee asks and promises, where the measure is t
 abbrev heard : ℕ → sweep-edges-lts.Claims
 heard t = (
   next-vertex-reads.Asked,

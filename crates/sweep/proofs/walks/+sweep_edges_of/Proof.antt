@@ -30,7 +30,7 @@ sweep-edges-of-below t =
     (falls 5 sweep-edges-of-kinds.ps _<_ μ-sweep-edges-of t)
     sweep-edges-of.Pre
 
--- what each callee asks and tells, where the measure is t
+-- what each callee asks and promises, where the measure is t
 abbrev heard : ℕ → sweep-edges-of-lts.Claims
 heard t = (
   next-edge-reads.Asked,

@@ -31,7 +31,7 @@ sweep-vertices-below t =
     (falls 5 sweep-vertices-kinds.ps _<_ μ-sweep-vertices t)
     sweep-vertices.Pre
 
--- what each callee asks and tells, where the measure is t
+-- what each callee asks and promises, where the measure is t
 abbrev heard : ℕ → sweep-vertices-lts.Claims
 heard t = (
   next-vertex-reads.Asked,

@@ -1,4 +1,4 @@
--- A number with a space behind it and the line of the other three are the line of all.
+-- A number with a space after it and the line of the other three are the line of all.
 use Rattle.text.proofs.Naturals.{natural-cases}
 use borrow.Author.Needs.{needs}
 use Rattle.text.proofs.lines.put_four.Statement.{statement}

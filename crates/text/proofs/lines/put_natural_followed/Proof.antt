@@ -1,4 +1,4 @@
--- The number and the byte behind it are one run.
+-- The number and the byte after it are one run.
 use Rattle.text.proofs.Naturals.{natural-cases}
 use borrow.Author.Needs.{needs}
 use Rattle.text.proofs.lines.put_natural_followed.Statement.{statement}

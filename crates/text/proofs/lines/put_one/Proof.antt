@@ -1,4 +1,4 @@
--- A number with the line's end behind it is a line.
+-- A number with the line's end after it is a line.
 use Rattle.text.proofs.LineLaws.{line-cases}
 use borrow.Author.Needs.{needs}
 use Rattle.text.proofs.lines.put_one.Statement.{statement}

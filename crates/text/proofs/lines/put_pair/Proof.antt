@@ -1,4 +1,4 @@
--- A number with a space behind it and the line of the other are the line of both.
+-- A number with a space after it and the line of the other are the line of both.
 use Rattle.text.proofs.LineLaws.{line-cases}
 use borrow.Author.Needs.{needs}
 use Rattle.text.proofs.lines.put_pair.Statement.{statement}

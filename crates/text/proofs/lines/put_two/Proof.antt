@@ -1,4 +1,4 @@
--- A number with a space behind it and one with the line's end behind it are the line of both.
+-- A number with a space after it and one with the line's end after it are the line of both.
 use Rattle.text.proofs.Naturals.{natural-cases}
 use borrow.Author.Needs.{needs}
 use Rattle.text.proofs.lines.put_two.Statement.{statement}

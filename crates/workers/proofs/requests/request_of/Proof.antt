@@ -37,17 +37,32 @@ enum-known-place-9 c = search needs
 enum-known-place-10 : tie.Need-enum-known-place-10
 enum-known-place-10 c = search needs
 
+of-ends-requires : tie.Need-of-ends-requires
+of-ends-requires c κs = search needs
+
 enum-known-place-11 : tie.Need-enum-known-place-11
 enum-known-place-11 c = search needs
+
+of-ends-requires-2 : tie.Need-of-ends-requires-2
+of-ends-requires-2 c κs = search needs
 
 enum-known-place-12 : tie.Need-enum-known-place-12
 enum-known-place-12 c = search needs
 
+of-ends-requires-3 : tie.Need-of-ends-requires-3
+of-ends-requires-3 c κs = search needs
+
 enum-known-place-13 : tie.Need-enum-known-place-13
 enum-known-place-13 c = search needs
 
+of-ends-requires-4 : tie.Need-of-ends-requires-4
+of-ends-requires-4 c κs = search needs
+
 enum-known-place-14 : tie.Need-enum-known-place-14
 enum-known-place-14 c = search needs
+
+of-ends-requires-5 : tie.Need-of-ends-requires-5
+of-ends-requires-5 c κs = search needs
 
 returns : tie.Need-returns
 returns c = search request-cases
@@ -109,10 +124,15 @@ request-of-spec =
     enum-known-place-8
     enum-known-place-9
     enum-known-place-10
+    of-ends-requires
     enum-known-place-11
+    of-ends-requires-2
     enum-known-place-12
+    of-ends-requires-3
     enum-known-place-13
+    of-ends-requires-4
     enum-known-place-14
+    of-ends-requires-5
     returns
     returns-2
     returns-3

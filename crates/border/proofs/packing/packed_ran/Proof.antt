@@ -1,0 +1,62 @@
+-- Each arm is the sum of the definition for its answer.
+use Rattle.border.proofs.Packed.{packs}
+use borrow.Author.Needs.{needs}
+use Rattle.border.proofs.packing.packed_ran.Statement.{statement}
+use Rattle.border.proofs.packing.packed_ran.Tie as tie
+
+enum-known-answer : tie.Need-enum-known-answer
+enum-known-answer c = search needs
+
+cast-result : tie.Need-cast-result
+cast-result c = search needs
+
+mul-result : tie.Need-mul-result
+mul-result c = search needs
+
+enum-known-answer-2 : tie.Need-enum-known-answer-2
+enum-known-answer-2 c = search needs
+
+refusal-number-requires : tie.Need-refusal-number-requires
+refusal-number-requires c κs = search needs
+
+cast-result-2 : tie.Need-cast-result-2
+cast-result-2 c = search needs
+
+enum-known-answer-3 : tie.Need-enum-known-answer-3
+enum-known-answer-3 c = search needs
+
+cast-result-3 : tie.Need-cast-result-3
+cast-result-3 c = search needs
+
+mul-result-2 : tie.Need-mul-result-2
+mul-result-2 c = search needs
+
+add-result : tie.Need-add-result
+add-result c = search needs
+
+returns : tie.Need-returns
+returns c = search packs
+
+returns-2 : tie.Need-returns-2
+returns-2 c = search packs
+
+returns-3 : tie.Need-returns-3
+returns-3 c = search packs
+
+pub packed-ran-spec : {M : Type 1} → statement M
+packed-ran-spec =
+    tie.close
+    (tie.spec
+    enum-known-answer
+    cast-result
+    mul-result
+    enum-known-answer-2
+    refusal-number-requires
+    cast-result-2
+    enum-known-answer-3
+    cast-result-3
+    mul-result-2
+    add-result
+    returns
+    returns-2
+    returns-3)

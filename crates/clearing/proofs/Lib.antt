@@ -1,0 +1,3 @@
+-- Laws of memory that is cleared and laid out fresh.
+pub mod Fills
+pub mod Zeros

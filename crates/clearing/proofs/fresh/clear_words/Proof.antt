@@ -1,0 +1,52 @@
+-- The loop keeps what the law of a filled list says: zero before i, and what was there from i on.
+use Prim.Native.Nat.{_-_}
+use lib.ListN.{length}
+use borrow.Author.Needs.{needs}
+use Rattle.clearing.proofs.Fills.{Filled, fills}
+use Rattle.clearing.proofs.fresh.clear_words.Statement.{statement}
+use Rattle.clearing.proofs.fresh.clear_words.Tie as tie
+
+abbrev Inv-loop : tie.InvT-loop
+Inv-loop words₀ i₀ words i = Filled 0 words₀ i words
+
+abbrev μ-loop : tie.MeasureT-loop
+μ-loop words₀ i₀ words i = length words₀ - i
+
+loop-holds : tie.Need-loop-holds Inv-loop μ-loop
+loop-holds c = search fills
+
+mul-words : tie.Need-mul-words Inv-loop μ-loop
+mul-words c = search needs
+
+slice-write-words : tie.Need-slice-write-words Inv-loop μ-loop
+slice-write-words c = search needs
+
+add-i : tie.Need-add-i Inv-loop μ-loop
+add-i c = search needs
+
+loop-less : tie.Need-loop-less Inv-loop μ-loop
+loop-less c = search needs
+
+loop-again : tie.Need-loop-again Inv-loop μ-loop
+loop-again c = search fills
+
+same-length : tie.Need-same-length Inv-loop μ-loop
+same-length c = search needs
+
+returns : tie.Need-returns Inv-loop μ-loop
+returns c = search fills
+
+pub clear-words-spec : {M : Type 1} → statement M
+clear-words-spec =
+    tie.close
+    (tie.spec
+    Inv-loop
+    μ-loop
+    loop-holds
+    mul-words
+    slice-write-words
+    add-i
+    loop-less
+    loop-again
+    same-length
+    returns)

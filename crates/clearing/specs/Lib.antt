@@ -1,0 +1,2 @@
+-- What the call that makes a catalogue fresh promises.
+pub mod Promised

@@ -1,0 +1,5 @@
+-- Laws of numbers that are read.
+pub mod Values
+pub mod Readings
+pub mod Signs
+pub mod Stops

@@ -1,0 +1,2 @@
+-- What the contracts of the readers of numbers cite.
+pub mod Digits

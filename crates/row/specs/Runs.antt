@@ -1,3 +1,0 @@
--- What holds at every moment of every run, and what each event of it is.
-pub mod Course
-pub mod Happen
