@@ -1,4 +1,5 @@
-/* Two series and a derivation are added, a loop and some wrong calls are refused, a series is removed, and a sweep makes room again. */
+/* Adds three series and a derivation. A loop and some wrong calls are refused. Then removes a series, and makes room
+ * by a sweep. */
 #include <stdio.h>
 #include <stdlib.h>
 
@@ -16,7 +17,7 @@ static void tell(const char *what, uint64_t told) {
     printf("%s: %u\n", what, pallaymi_number(told));
 }
 
-/* Each is refused by its number, and changes nothing. */
+/* Each call is refused with its number and changes nothing. */
 static void go_wrong(void) {
     ask("code 7", 7, 10, 20);
     ask("add the least key", PALLAYMI_ADD_SERIES, INT32_MIN, 0);

@@ -13,7 +13,7 @@ static void count(tally *t, performed p) {
         t->other++;
 }
 
-/* The key of the n-th series; every other one lies below zero. */
+/* The key of the n-th series; every other one is below zero. */
 static int32_t key(int n) { return n % 2 == 0 ? n : -n; }
 
 tally on_series(catalogue *c, pallaymi_workers *table, uint32_t code, int first, int by) {

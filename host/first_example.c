@@ -1,5 +1,5 @@
-/* The first example of the drill, through the library in two ways: turn by turn, and as a script. Both must make the same text and the same
- * catalogue. The text is printed. */
+/* The first example of the drill, through the library in two ways: turn by turn, and as a script. Both must make the
+ * same text and the same catalogue. Prints the text. */
 #include <stdio.h>
 #include <stdlib.h>
 #include <string.h>
@@ -26,13 +26,13 @@ static const char script[] = "1 4 22\n"
                              "4 7 5\n"
                              "0 0 0 0 0 0 0 0 0 0 0 0 0 0 0 0 0 0 0 0 0 0\n";
 
-/* What one way makes. */
+/* The result of one way. */
 typedef struct {
     catalogue c;
     char text[OUTPUT + 1];
 } result;
 
-/* The lines of a listing, after its first line with the counts. A listing does not know of replies and counts none. */
+/* Returns the lines of a listing after the first one, which has the counts. A listing counts no replies. */
 static const char *listed(const catalogue *c, unsigned *series, unsigned *derivations) {
     static char text[OUTPUT + 1];
     uint64_t told = pallaymi_listing(LENT(c), (uint8_t *)text, OUTPUT);
@@ -44,7 +44,8 @@ static const char *listed(const catalogue *c, unsigned *series, unsigned *deriva
     return strchr(text, '\n') + 1;
 }
 
-/* Worker 0 has every turn: idle, it takes up its next request; busy, it steps. A reply makes a line: turn, worker, code, reply. */
+/* Worker 0 has every turn: idle, it takes up its next request; busy, it steps. Writes a line for each reply: turn,
+ * worker, code, reply. Returns how many there are. */
 static int play(catalogue *c, char *lines) {
     pallaymi_workers table;
     int taken = 0, replies = 0, busy = 0;

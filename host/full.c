@@ -1,5 +1,5 @@
-/* A catalogue filled until neither pool has a node left, listed, swept, thinned out, swept again and filled again: what the program crates/full does,
- * through the library. */
+/* Does what the program crates/full does, through the library. Fills a catalogue until neither pool has a node left.
+ * Then lists it, sweeps it, thins it out, sweeps it again and fills it again. */
 #include <stdio.h>
 #include <stdlib.h>
 

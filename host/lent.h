@@ -1,10 +1,10 @@
-/* What the programs here share: memory to lend, and a request by a lone worker. */
+/* Shared by the programs here: memory to lend, and a request by a lone worker. */
 #ifndef LENT_H
 #define LENT_H
 
 #include "pallaymi.h"
 
-/* The sizes that the library tells, as constants, so that a catalogue can be a plain struct. */
+/* The sizes that the library returns, as constants, so that a catalogue can be a plain struct. */
 enum { KEYS = 2304, WORDS = 4610, OUTPUT = 65536 };
 
 typedef struct {
@@ -24,7 +24,7 @@ typedef struct {
 /* Ends the program with a message. */
 void fail(const char *what);
 
-/* Fails if the sizes here, or that of a table in the header, are not those that the library tells. */
+/* Fails unless the library returns the sizes here, and that of a table in the header. */
 void check_sizes(void);
 
 /* Worker 0 takes up a request and steps to its reply. */

@@ -4,7 +4,7 @@
 
 #include "lent.h"
 
-/* A script of more bytes is refused, however many more there are, so one more is enough to read. */
+/* A longer script is refused, so one byte more is enough to read. */
 enum { LONGEST = 49152 };
 
 int main(void) {

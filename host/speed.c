@@ -1,4 +1,4 @@
-/* How many steps a second the library makes: a catalogue is made fresh and filled, as often as the argument says. */
+/* Prints how many steps a second the library makes. Fills a fresh catalogue as often as the argument says. */
 #define _POSIX_C_SOURCE 199309L
 #include <stdio.h>
 #include <stdlib.h>
@@ -12,7 +12,7 @@ static double now(void) {
     return (double)t.tv_sec + (double)t.tv_nsec / 1e9;
 }
 
-/* The steps of one filling. A pool that is not full in the end would make it another work than the one to time. */
+/* Returns the steps of one filling. Fails if a pool is not full in the end: that would be other work to time. */
 static uint32_t fill(catalogue *c, pallaymi_workers *table) {
     if (pallaymi_fresh(LENT(c)) != 0)
         fail("no fresh catalogue");

@@ -3,9 +3,9 @@
 
     python/bench.py [--requests N] [--seed N]
 
-A catalogue of 200 series and 1,500 derivations is built, then a mix of the six requests is made by
-one worker, each driven to its reply. The same goes to a graph of networkx, where that is installed,
-and to a dictionary of sets with a depth-first search. All must give the same replies.
+Builds a catalogue of 200 series and 1,500 derivations. Then one worker makes a mix of the six
+requests, each run to its reply. A graph of networkx, where that is installed, and a dictionary of
+sets with a depth-first search get the same requests. All must give the same replies.
 """
 
 import argparse
@@ -95,7 +95,7 @@ class DictGraph:
 
 
 def dict_has_path(graph, source, target):
-    """Whether a depth-first search from the source comes to the target."""
+    """Whether a depth-first search from the source reaches the target."""
     seen = {source}
     waiting = [source]
     while waiting:
@@ -109,7 +109,7 @@ def dict_has_path(graph, source, target):
 
 
 class Plain:
-    """A plain graph, with a search for a way back before each edge that is added."""
+    """A plain graph that searches for a way back before it adds an edge."""
 
     def __init__(self, name, graph, has_path):
         self.name = name
@@ -153,7 +153,7 @@ class Plain:
 
 
 def sides():
-    """Those that are compared, the catalogue first."""
+    """The sides to compare, the catalogue first."""
     found = [Proved()]
     if networkx is not None:
         name = f"networkx {networkx.__version__}"
@@ -204,7 +204,7 @@ def compare(title, compared, requests):
 
 
 def print_time(side, seconds, own, count):
-    """A line of the table; its last number is the catalogue's time divided by this side's."""
+    """Prints a line of the table; its last number is the catalogue's time over this side's."""
     each = seconds / count * 1e6
     print(f"  {side.name:18}{seconds:9.3f} s {each:9.1f} us each   ratio {own / seconds:8.2f}")
 

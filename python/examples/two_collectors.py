@@ -1,8 +1,8 @@
 #!/usr/bin/env python3
-"""Two collectors of which each derives from the other's series, stepped turn about.
+"""Two collectors that each derive from the other's series, stepped in turn.
 
-The two derivations would close a loop. While both are on trial each stands in the other's way, so
-both are refused; when the collectors try again one after the other, the first one gets through.
+The two derivations would close a loop. While both are on trial each blocks the other, so both are
+refused. When the collectors try again one after the other, the first one succeeds.
 """
 
 import sys
@@ -29,7 +29,7 @@ def turn_about(catalogue: Catalogue) -> None:
 
 
 def one_by_one(catalogue: Catalogue) -> None:
-    """Each collector is driven to its reply before the other begins."""
+    """Each collector steps to its reply before the other begins."""
     for worker, request in enumerate(WANTED):
         print(f"collector {worker}: {catalogue.ask(worker, request).name}")
 

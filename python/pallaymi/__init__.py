@@ -5,8 +5,8 @@
     catalogue = Catalogue(workers=2)
     catalogue.ask(0, AddSeries(10))
 
-The work is done by the proved C library, which the command python/build makes. The variable
-PALLAYMI_LIBRARY may name another file of it.
+The proved C library does the work; the command python/build makes it. The variable
+PALLAYMI_LIBRARY may name another library file.
 """
 
 from ._library import LibraryMissing

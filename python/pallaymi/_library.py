@@ -1,4 +1,4 @@
-"""The C library: where it is, and what its functions take and tell."""
+"""The C library: where it is, and what its functions take and return."""
 
 from __future__ import annotations
 
@@ -63,7 +63,7 @@ def library() -> ctypes.CDLL:
 
 
 def _type_functions(loaded: ctypes.CDLL) -> None:
-    """Says what each function takes and tells; a function that is missing is an AttributeError."""
+    """Declares what each function takes and returns; a missing one raises AttributeError."""
     for name in _SIZES:
         function = getattr(loaded, name)
         function.argtypes = []

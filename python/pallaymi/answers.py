@@ -22,7 +22,7 @@ class Reply(IntEnum):
 
     @property
     def done(self) -> bool:
-        """Whether it is done, or is there. A reply itself is true in any case, being a number."""
+        """Whether it is done, or present. As a number, every reply is true."""
         return self is Reply.DONE
 
     @property
@@ -46,13 +46,13 @@ _MEANINGS = {
 
 @dataclass(frozen=True)
 class Going:
-    """The call goes on; its trial, if it is in one, has met so many series."""
+    """The call goes on; `met` is how many series its trial, if any, has met."""
 
     met: int
 
 
 class Refused(Exception):
-    """The library refused a call, which has changed nothing."""
+    """The library refused a call, which changed nothing."""
 
     number: ClassVar[int]
     meaning: ClassVar[str]
@@ -119,13 +119,13 @@ _REFUSALS = {
 
 
 def _refusal(told: int) -> Refused:
-    """The refusal that the library told."""
+    """The refusal that the library returned."""
     more, number = divmod(told, 256)
     return ScriptRefused(more) if number == ScriptRefused.number else _REFUSALS[number]()
 
 
 def check(told: int) -> int:
-    """MORE of what the library told, where its NUMBER is 0; a refusal is raised."""
+    """Returns MORE where NUMBER is 0, and raises a refusal otherwise."""
     more, number = divmod(told, 256)
     if number != 0:
         raise _refusal(told)
@@ -133,13 +133,13 @@ def check(told: int) -> int:
 
 
 _REPLIES = {int(reply): reply for reply in Reply}
-# A trial meets 256 series at most; with all answers made beforehand a step costs one look.
+# A trial meets 256 series at most. With all answers made beforehand, a step costs one lookup.
 _GOING = {256 * met: Going(met) for met in range(257)}
 _ANSWERS: Dict[int, Union[Going, Reply]] = {**_GOING, **_REPLIES}
 
 
 def answer(told: int) -> Union[Going, Reply]:
-    """What a step told, as an object; a refusal is raised."""
+    """Returns what a step returned, as an object; raises a refusal."""
     known = _ANSWERS.get(told)
     if known is None:
         raise _refusal(told)

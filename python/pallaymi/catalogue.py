@@ -15,14 +15,14 @@ from .requests import AnyRequest
 class Catalogue:
     """Series and derivations that never close a loop, with up to eight workers, numbered from 0.
 
-    A worker takes up a request and steps to its reply; the host chooses whose step is next. Any
-    method may raise a `Refused`, and has then changed nothing. Threads may share a catalogue, each
-    with a worker of its own: single steps wait for each other. `lent` is the low-level layer, see
-    `pallaymi.lent`; a call made there is not seen by `busy` and `idle`.
+    A worker takes up a request and steps to its reply; the host chooses the next worker. Any
+    method may raise a `Refused`, and then changes nothing. Threads may share a catalogue, each with
+    its own worker: single steps wait for each other. `lent` is the low-level layer, see
+    `pallaymi.lent`; `busy` and `idle` do not see calls made there.
     """
 
     def __init__(self, workers: int = 8) -> None:
-        """An empty catalogue; WorkerRefused where `workers` is not 1 to 8."""
+        """Makes an empty catalogue; raises WorkerRefused where `workers` is not 1 to 8."""
         self.lent = Lent()
         check(self.lent.make_table(workers))
         check(self.lent.fresh())
@@ -38,12 +38,12 @@ class Catalogue:
 
     @property
     def idle(self) -> Tuple[int, ...]:
-        """The workers that have none."""
+        """The workers that have no request."""
         with self._lock:
             return tuple(worker for worker in self._workers if worker not in self._calls)
 
     def take_up(self, worker: int, request: AnyRequest) -> Call:
-        """An idle worker takes up a request; the call that this begins is to be stepped."""
+        """An idle worker takes up a request. Returns the call, which is then stepped."""
         with self._lock:
             check(self.lent.take_up(worker, request.code, request.first, request.second))
             call = Call(self, worker, request)
@@ -56,7 +56,7 @@ class Catalogue:
             return self._step(worker)
 
     def _step(self, worker: int) -> Union[Going, Reply]:
-        """The step itself, under the lock; the worker's call notes what it told."""
+        """The step itself, under the lock; updates the worker's call."""
         told = answer(self.lent.step(worker))
         call = self._calls.get(worker)
         if call is None:
@@ -72,7 +72,7 @@ class Catalogue:
 
     @contextmanager
     def call(self, worker: int, request: AnyRequest) -> Iterator[Call]:
-        """A context for one call: leaving it, by an exception too, drives the call to its reply."""
+        """A context for one call: leaving it, by an exception too, steps the call to its reply."""
         call = self.take_up(worker, request)
         try:
             yield call
@@ -84,12 +84,12 @@ class Catalogue:
         return self.take_up(worker, request).finish()
 
     def sweep(self) -> None:
-        """Makes the room of what was removed free again; all workers have to be idle."""
+        """Frees the room of what was removed; all workers must be idle."""
         with self._lock:
             check(self.lent.sweep())
 
     def listing(self) -> Listing:
-        """What the catalogue holds now, workers busy or not."""
+        """Returns what the catalogue holds now, workers busy or not."""
         with self._lock:
             return Listing.read(self.lent.text(check(self.lent.listing())))
 
@@ -97,8 +97,8 @@ class Catalogue:
 class Call:
     """One request of one worker, from its taking up on.
 
-    `steps` is how many steps it has made since, `met` how many series its trial has met (0 outside
-    a trial and with a reply), and `reply` its reply, or None as long as it goes on.
+    `steps` is how many steps it has made since. `met` is how many series its trial has met (0
+    outside a trial and with a reply). `reply` is its reply, or None while it goes on.
     """
 
     def __init__(self, catalogue: Catalogue, worker: int, request: AnyRequest) -> None:
@@ -113,7 +113,7 @@ class Call:
         return f"<Call of worker {self.worker}: {self.request}, reply {self.reply!r}>"
 
     def step(self) -> Union[Going, Reply]:
-        """One step of this call; a RuntimeError once it has its reply."""
+        """Makes one step of this call; raises RuntimeError once it has its reply."""
         with self._catalogue._lock:
             if self.reply is not None:
                 raise RuntimeError(f"{self} is over")

@@ -1,10 +1,10 @@
 """The low-level layer: the memory that a catalogue lends to the library, and the bare calls on it.
 
-A method tells the number that the library told. The arrays may be read and changed, and a `Memory`
-or the output put in the place of another, as the tests of the refusals do; what is wrong with them
-the library refuses. Three things are left to the caller: no two calls on one `Lent` may run at
-once; the table, whose size the library cannot see, stays the one it is; and in memory that was
-changed by hand a request may never come to its reply, though each of its steps ends.
+A method returns the library's number. The arrays may be read and changed, and a `Memory` or the
+output replaced, as the tests of the refusals do. The library refuses what is wrong with them. Three
+things are up to the caller. No two calls on one `Lent` may run at the same time. The table, whose
+size the library cannot see, may not be replaced. In memory that was changed by hand a request may
+never get its reply, though each of its steps ends.
 """
 
 from __future__ import annotations
@@ -66,7 +66,7 @@ class Lent:
         )
 
     def sweep(self) -> int:
-        """Copies the live graph into the spare memory, which then is the memory."""
+        """Copies the live graph into the spare memory, and exchanges the two."""
         told = self._calls.pallaymi_sweep(
             *self.memory.arguments, *self.spare.arguments, self.table
         )
@@ -75,7 +75,7 @@ class Lent:
         return told
 
     def run(self, script: bytes) -> int:
-        """Plays a script on the memory, made fresh for it, and writes the result to the output."""
+        """Makes the memory fresh, plays a script on it, and writes the result to the output."""
         return self._calls.pallaymi_run(
             script, len(script), *self.memory.arguments, self.output, len(self.output)
         )
@@ -86,7 +86,7 @@ class Lent:
 
 
 def _u32(value: int, what: str) -> int:
-    """The number itself, where C takes it as an unsigned one of 32 bits."""
+    """Returns the number, if C takes it as an unsigned one of 32 bits."""
     number = operator.index(value)
     if not 0 <= number < 2**32:
         raise ValueError(f"{what} is a number from 0 to {2**32 - 1}, and not {number}")
@@ -94,7 +94,7 @@ def _u32(value: int, what: str) -> int:
 
 
 def _key(value: int) -> int:
-    """The number itself, where C takes it as a signed one of 32 bits."""
+    """Returns the number, if C takes it as a signed one of 32 bits."""
     number = operator.index(value)
     if not -(2**31) <= number < 2**31:
         raise ValueError(f"a key is a number from {-(2**31)} to {2**31 - 1}, and not {number}")

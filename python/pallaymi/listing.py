@@ -20,7 +20,7 @@ class Contents(NamedTuple):
 
 
 class ReplyLine(NamedTuple):
-    """A reply, and at which turn of the schedule (from 1) which worker had it, to which code."""
+    """A reply, with its turn of the schedule (from 1), its worker and the code of its request."""
 
     turn: int
     worker: int
@@ -37,7 +37,7 @@ class Derivation(NamedTuple):
 
 @dataclass(frozen=True)
 class Listing:
-    """What a catalogue holds and, for a script's result, what its workers were told."""
+    """What a catalogue holds and, for a script's result, the replies of its workers."""
 
     contents: Contents
     replies: Tuple[ReplyLine, ...]
@@ -47,7 +47,7 @@ class Listing:
 
     @classmethod
     def read(cls, text: str) -> Listing:
-        """Takes a text apart that the library wrote."""
+        """Parses a text that the library wrote."""
         first, *rest = ([int(word) for word in line.split()] for line in text.splitlines())
         contents = Contents(*first)
         series_at = contents.replies

@@ -1,7 +1,7 @@
 """The requests that a worker takes up.
 
 Each has a code and two keys, as the library takes them. A derivation leads from its source to the
-series that is derived from it.
+series derived from it.
 """
 
 from __future__ import annotations

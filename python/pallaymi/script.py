@@ -12,7 +12,7 @@ from .listing import Listing
 def run(script: Union[str, bytes]) -> Listing:
     """Plays a script on a fresh catalogue of its own and returns its result.
 
-    No other catalogue is touched. A text is played as its UTF-8 bytes; one that is no script raises
+    No other catalogue is touched. A text is played as its UTF-8 bytes. One that is no script raises
     ScriptRefused, whose `line` is the first bad one.
     """
     lent = Lent()

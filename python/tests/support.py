@@ -1,4 +1,4 @@
-"""What the tests share: the package on the path, memory looked at whole, and scripts."""
+"""Shared by the tests: the package on the path, all lent bytes, and scripts."""
 
 import itertools
 import os
@@ -25,7 +25,7 @@ def everything(lent: Lent) -> List[bytes]:
 
 
 class Script(NamedTuple):
-    """The requests of each worker, and whose turn it is, turn by turn."""
+    """The requests of each worker, and the worker of each turn."""
 
     requests: Sequence[Sequence[AnyRequest]]
     turns: Sequence[int]

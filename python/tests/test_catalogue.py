@@ -1,4 +1,4 @@
-"""The catalogue in Python's manner: calls and their contexts, views, sweeps, listings, threads."""
+"""The catalogue from Python: calls and their contexts, views, sweeps, listings, threads."""
 
 import dataclasses
 import random
@@ -215,7 +215,7 @@ class Threads(unittest.TestCase):
         self.assert_no_loop(catalogue.listing())
 
     def assert_no_loop(self, listing):
-        """Series that nothing is left to be derived from are taken away until none is left."""
+        """Takes away the series that are derived from none of the rest, until none is left."""
         series, derivations = set(listing.series), set(listing.derivations)
         self.assertTrue(derivations)
         while series:

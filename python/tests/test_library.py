@@ -1,4 +1,4 @@
-"""Where the library is looked for, and that it is typed as the C header says."""
+"""Where the package looks for the library, and that its types are those of the C header."""
 
 import ctypes
 import os
@@ -34,7 +34,7 @@ def declared():
 
 
 def list_one(library):
-    """Lists an empty catalogue in a process of its own, with this library."""
+    """Lists an empty catalogue in a new process, with this library."""
     return subprocess.run(
         [sys.executable, "-c", "import pallaymi; print(pallaymi.Catalogue(2).listing().text)"],
         env={**os.environ, "PYTHONPATH": str(support.PYTHON), _library.VARIABLE: str(library)},

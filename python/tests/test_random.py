@@ -28,7 +28,7 @@ def random_request(source, keys):
 
 
 def random_turns(source, workers, count):
-    """Turns in runs: of one turn each, or of up to a dozen, as the seed has it."""
+    """Turns in runs of one, or of up to 3 or 12, as the seed chooses."""
     longest = source.choice((1, 3, 12))
     turns = []
     while len(turns) < count:

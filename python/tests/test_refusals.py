@@ -1,4 +1,4 @@
-"""Every refusal from 20 to 27, reached from Python, and that each changes nothing."""
+"""Every refusal from 20 to 27, reached from Python; none changes anything."""
 
 import contextlib
 import pickle
@@ -47,7 +47,7 @@ class Refusals(unittest.TestCase):
 
     @contextlib.contextmanager
     def refuses(self, refusal):
-        """What is done within is refused so, and changes no byte of what is lent."""
+        """What is done within must be refused so, and change no lent byte."""
         before = support.everything(self.lent)
         busy = self.catalogue.busy
         with self.assertRaises(refusal) as caught:
@@ -56,7 +56,7 @@ class Refusals(unittest.TestCase):
         self.assertEqual(self.catalogue.busy, busy)
 
     def finish(self):
-        """Brings worker 1 to its reply, so that all are idle."""
+        """Steps worker 1 to its reply, so that all are idle."""
         while self.catalogue.busy:
             self.catalogue.step(1)
 

@@ -52,7 +52,7 @@ pub(crate) struct EdgeLink {
     pub tag: EdgeTag,
 }
 
-/// The link in front of an edge: whoever redirects it keeps its tag.
+/// The link before an edge. A redirect keeps its tag.
 #[derive(Clone, Copy, Debug, PartialEq, Eq)]
 pub(crate) enum Lead {
     First(u8),
@@ -89,8 +89,8 @@ impl Default for Catalogue {
     }
 }
 
-/// Reading. The lengths were checked before, so a vertex number can never miss;
-/// an edge number can, and that is how one outside its pool is found out.
+/// Reading. The lengths were checked before, so a vertex number is always in
+/// range. An edge number may not be: it is then outside its pool.
 impl Catalogue {
     pub(crate) fn check_room(&self) -> Result<(), Refusal> {
         let vertices = [self.vertex_keys.len(), self.vertex_links.len(), self.first_edges.len()];
@@ -108,7 +108,7 @@ impl Catalogue {
         self.vertex_keys[usize::from(vertex)]
     }
 
-    /// The whole link, node number and tag, even if only one is wanted.
+    /// The whole link, node number and tag, even if only one is needed.
     pub(crate) fn vertex_link(&self, vertex: u8) -> Result<VertexLink, Refusal> {
         let link = self.vertex_links[usize::from(vertex)];
         let next = u8::try_from(link / 4).map_err(|_| Refusal::Torn)?;
@@ -119,7 +119,7 @@ impl Catalogue {
         }
     }
 
-    /// The tail's memory is not even read.
+    /// Does not read the tail's memory.
     pub(crate) fn is_marked(&self, vertex: u8) -> Result<bool, Refusal> {
         if vertex == TAIL {
             return Ok(false);
@@ -195,9 +195,9 @@ impl Catalogue {
         }
     }
 
-    // The new node is complete before p leads to it. In sound memory nobody can
-    // tell; in garbage, where the new node may be p itself, p's link has the
-    // last word. The same order holds for edges.
+    // The new node is complete before p leads to it. In sound memory this order
+    // does not show. In garbage the new node may be p itself, and p's link wins.
+    // The same order holds for edges.
     fn insert_vertex(&mut self, number: u8, key: i32, p: u8, c: u8) {
         self.put_vertex(number, key, c);
         self.lead_vertex(p, number);
@@ -217,12 +217,12 @@ impl Catalogue {
         self.put_edge_link(edge, link);
     }
 
-    /// Lets one live vertex lead to another.
+    /// Makes one live vertex lead to another.
     pub(crate) fn lead_vertex(&mut self, vertex: u8, next: u8) {
         self.put_vertex_link(vertex, VertexLink { next, marked: false });
     }
 
-    /// Lets one added edge lead to another.
+    /// Makes one added edge lead to another.
     pub(crate) fn lead_edge(&mut self, edge: u16, next: u16) {
         self.put_edge_link(edge, EdgeLink { next, tag: EdgeTag::Added });
     }

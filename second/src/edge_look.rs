@@ -14,7 +14,7 @@ enum Look {
     Gone,
     /// Another look is needed; the spot to look at next.
     On(Change, EdgeSpot),
-    /// p leads to c, and c is not below the key. No link stands for the tail.
+    /// p leads to c, and c is not below the key. No link means the tail.
     Settle(Lead, Option<EdgeLink>),
 }
 

@@ -1,6 +1,6 @@
-//! The series catalogue, written a second time: one memory of linked vertices
-//! and edges, a table of workers that change it step by step, a sweep, a
-//! listing, and scripts that play a whole schedule.
+//! The series catalogue, written a second time. One memory holds linked vertices
+//! and edges; the workers of a table change it step by step. There are a sweep,
+//! a listing, and scripts that play a whole schedule.
 //!
 //! This program exists to be compared with another one, so it favours being
 //! easy to read over being fast.

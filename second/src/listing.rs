@@ -6,7 +6,7 @@ use crate::catalogue::Catalogue;
 use crate::numbers::{Refusal, OUTPUT};
 use crate::sweep::{survey, Survey};
 
-/// One reply of a script: when, by whom, to which code, and what.
+/// One reply of a script, with its position, its worker and its code.
 #[derive(Clone, Copy, Debug, PartialEq, Eq)]
 pub(crate) struct ReplyLine {
     pub position: usize,
@@ -15,7 +15,7 @@ pub(crate) struct ReplyLine {
     pub reply: u8,
 }
 
-/// Lists a catalogue by itself; the answer is the number of bytes written.
+/// Lists a catalogue by itself; returns the number of bytes written.
 pub fn listing(catalogue: &Catalogue, output: &mut [u8]) -> Result<usize, Refusal> {
     check_output(output)?;
     catalogue.check_room()?;
@@ -29,8 +29,8 @@ pub(crate) fn check_output(output: &[u8]) -> Result<(), Refusal> {
     Ok(())
 }
 
-/// Writes at the start of the output and keeps the rest of it. A catalogue in
-/// the midst of trials can be listed, so edges in transit are allowed.
+/// Writes at the start of the output and keeps the rest of it. A catalogue can
+/// be listed during trials, so edges in transit are allowed.
 pub(crate) fn write_listing(
     catalogue: &Catalogue,
     replies: &[ReplyLine],
@@ -44,8 +44,8 @@ pub(crate) fn write_listing(
 }
 
 // The contents line counts all ADDED edges in live lists, while the body only
-// has those to live targets; the two differ while an edge to a removed vertex
-// still stands.
+// has those to live targets. The two differ while an edge to a removed vertex
+// is still in a list.
 fn text(
     catalogue: &Catalogue,
     replies: &[ReplyLine],

@@ -24,12 +24,12 @@ struct Script {
     schedule: Vec<usize>,
 }
 
-/// Plays a script from a fresh catalogue; the answer is the number of bytes written.
+/// Plays a script from a fresh catalogue; returns the number of bytes written.
 pub fn run(script: &[u8], catalogue: &mut Catalogue, output: &mut [u8]) -> Result<usize, Refusal> {
     catalogue.check_room()?;
     check_output(output)?;
     let script = read(script)?;
-    // Played on a catalogue of its own, so that a refusal leaves the lent one alone.
+    // Played on a separate catalogue, so that a refusal does not change the lent one.
     let mut played = Catalogue::default();
     let replies = play(&script, &mut played)?;
     let written = write_listing(&played, &replies, output)?;
@@ -55,7 +55,7 @@ fn play(script: &Script, catalogue: &mut Catalogue) -> Result<Vec<ReplyLine>, Re
     Ok(replies)
 }
 
-/// Hands out lines one by one and knows which one is being read.
+/// Returns lines one by one and knows which one is being read.
 struct Lines<'a> {
     rest: &'a [u8],
     number: usize,
@@ -93,8 +93,8 @@ fn read_lines(lines: &mut Lines) -> Option<Script> {
         requests.push(own);
     }
     let schedule = schedule(lines.next()?, length, counts.len())?;
-    // Bytes after the schedule make up a line too many, and that line is the
-    // bad one.
+    // Bytes after the schedule are one line too many, and that line is the bad
+    // one.
     if !lines.rest.is_empty() {
         lines.number += 1;
         return None;

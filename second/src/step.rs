@@ -1,5 +1,5 @@
-//! Taking up a request and making one step: the checks that come first, the
-//! choice of the rule by the worker's place, and the storing of the outcome.
+//! Taking up a request, and one step: first the checks, then the choice of the
+//! rule by the worker's place, then storing the outcome.
 
 use crate::catalogue::{Catalogue, Change};
 use crate::edge_look;
@@ -9,7 +9,7 @@ use crate::vertex_look;
 use crate::worker::{EdgeCall, Pair, Place, Record, Table, VertexSpot};
 
 /// What a step would do. The rules only compute one of these and touch nothing,
-/// so a refusal anywhere on the way leaves everything as it was.
+/// so a refusal anywhere on the way changes nothing.
 pub(crate) struct Outcome {
     pub change: Change,
     pub record: Record,

@@ -16,7 +16,7 @@ pub(crate) struct Survey {
 
 /// Walks all that can be reached and refuses what is not sound.
 ///
-/// Only what the walk reads is judged: nodes it does not reach, the edge lists
+/// Only what the walk reads is judged. Nodes it does not reach, the edge lists
 /// of marked vertices, the head's first-edge link and the handed-out counts may
 /// hold anything.
 pub(crate) fn survey(catalogue: &Catalogue, transit_allowed: bool) -> Result<Survey, Refusal> {
@@ -35,8 +35,7 @@ fn walk_vertices(catalogue: &Catalogue) -> Result<(Vec<u8>, [bool; VERTICES]), R
     let mut walked = [false; VERTICES];
     let mut key = catalogue.vertex_key(HEAD);
     let mut link = catalogue.vertex_link(HEAD)?;
-    // Of the head it is the tag that has to be PLAIN; its first-edge link
-    // belongs to no list.
+    // The head's tag must be PLAIN; its first-edge link belongs to no list.
     if link.marked {
         return Err(Refusal::Torn);
     }
@@ -91,8 +90,8 @@ fn walk_edges(
     Ok(())
 }
 
-/// An edge's target and whether it is live. Every edge is held to this, marked
-/// ones too, and its key must be the target's even if the target is marked.
+/// An edge's target and whether it is live. Every edge is tested, marked ones
+/// too, and its key must be the target's even if the target is marked.
 fn check_target(
     catalogue: &Catalogue,
     edge: u16,
@@ -122,7 +121,7 @@ pub fn sweep(first: &Catalogue, second: &mut Catalogue, table: &Table) -> Result
     Ok(())
 }
 
-/// Numbers the vertices anew; the answer gives each old number its new one.
+/// Numbers the vertices anew; returns the new number of each old one.
 fn write_vertices(first: &Catalogue, second: &mut Catalogue, vertices: &[u8]) -> [u8; VERTICES] {
     let mut numbers = [HEAD; VERTICES];
     let mut previous = HEAD;

@@ -25,8 +25,8 @@ pub(crate) fn step(
     }
 }
 
-/// Gives the own edge its last tag. Which tag it had before does not matter as
-/// long as an edge may have it, since the rule names no condition on it.
+/// Gives the own edge its last tag. The tag before may be any that an edge may
+/// have, since the rule names no condition on it.
 fn finish(
     catalogue: &Catalogue,
     trial: TrialSpot,

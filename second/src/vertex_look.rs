@@ -75,8 +75,8 @@ enum Sight {
     Missing,
 }
 
-// A higher key decides by itself, so c's link stays unread then and may be
-// garbage: the condition "equal key and unmarked" is taken from left to right.
+// A higher key decides by itself, so c's link is not read then and may be
+// garbage. The condition "equal key and unmarked" is read from left to right.
 fn sight(catalogue: &Catalogue, key: i32, c: u8) -> Result<Sight, Refusal> {
     let here = catalogue.vertex_key(c);
     if here < key {

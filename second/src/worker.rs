@@ -25,7 +25,7 @@ pub struct VertexSpot {
     pub c: u8,
 }
 
-/// What stands in front of c in an edge list.
+/// What comes before c in an edge list.
 #[derive(Clone, Copy, Debug, PartialEq, Eq)]
 pub enum Previous {
     /// The source's first-edge link.
@@ -44,7 +44,7 @@ pub struct EdgeSpot {
     pub c: u16,
 }
 
-/// What stays the same throughout a trial.
+/// What is unchanged during a trial.
 #[derive(Clone, Copy, Debug, PartialEq, Eq)]
 pub struct TrialSpot {
     pub keys: Pair,
@@ -93,7 +93,7 @@ pub enum Place {
 }
 
 impl Place {
-    /// Whether the request standing here has a key that no request may have.
+    /// Whether the request at this place has a key that no request may have.
     pub(crate) fn has_reserved_key(&self) -> bool {
         match self {
             Place::Idle => false,
@@ -115,8 +115,8 @@ impl Place {
 
 /// One worker: its place, and beside it what a trial gathers.
 ///
-/// Only trial places use the met set and the queue. Found elsewhere, garbage in
-/// them is neither looked at nor carried on: the next record has zeros there.
+/// Only trial places use the met set and the queue. At other places garbage in
+/// them is neither read nor kept: the next record has zeros there.
 #[derive(Clone, Copy, Debug, PartialEq, Eq)]
 pub struct Record {
     pub place: Place,
@@ -136,7 +136,7 @@ impl Record {
         Record::at(Place::Idle)
     }
 
-    /// The same trial, gone on to another place.
+    /// The same trial, at another place.
     pub(crate) fn moved(mut self, place: Place) -> Self {
         self.place = place;
         self
@@ -184,7 +184,7 @@ impl Record {
         self.queue.get(usize::from(self.front)).copied()
     }
 
-    /// Moves past the front; the number taken stays where it is.
+    /// Moves past the front; the queue keeps the number taken.
     pub(crate) fn take_front(mut self) -> Self {
         self.front += 1;
         self
@@ -220,7 +220,7 @@ impl Table {
         self.records.get(worker).ok_or(Refusal::Worker)
     }
 
-    /// Whether any worker that counts is busy; records past the count do not.
+    /// Whether any worker is busy; records past the count do not matter.
     pub(crate) fn any_busy(&self) -> bool {
         self.records.iter().take(self.count).any(|record| !record.is_idle())
     }

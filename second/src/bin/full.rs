@@ -1,5 +1,5 @@
-//! A catalogue filled until neither pool has a node left, listed, swept, thinned
-//! out, swept again and filled again.
+//! Fills a catalogue until neither pool has a node left. Then lists it, sweeps it,
+//! thins it out, sweeps it again and fills it again.
 
 mod asking;
 
@@ -7,8 +7,8 @@ use asking::{key, on_vertices, perform, Tally};
 use second::numbers::OUTPUT;
 use second::{listing, sweep, Catalogue, Refusal, Table};
 
-/// The same request on the edges of every by-th vertex: one to each fourteenth
-/// vertex below it, which is more edges than fit.
+/// Makes the same request on the edges of every by-th vertex: one to each
+/// fourteenth vertex below it, which is more edges than fit.
 fn on_edges(catalogue: &mut Catalogue, code: u32, by: usize) -> Result<Tally, Refusal> {
     let mut tally = Tally::default();
     for n in (0..254).step_by(by) {

@@ -109,7 +109,7 @@ fn p6_one_half_run_out_first() {
     }
 }
 
-/// What another worker is answered while the edge from 1 to 2 is on trial.
+/// The reply to another worker while the edge from 1 to 2 is on trial, then the adder's.
 fn during_trial(request: (u32, i32, i32)) -> (u8, u8) {
     let mut catalogue = graph(&[1, 2], &[]);
     let mut table = Table::new(2);

@@ -1,4 +1,4 @@
-//! Small things every test uses.
+//! Small helpers for all tests.
 
 use second::numbers::OUTPUT;
 use second::worker::{EdgeSpot, Pair, Place, Previous, Record, TrialSpot};

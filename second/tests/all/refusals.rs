@@ -97,7 +97,7 @@ fn busy_workers() {
         assert_eq!(sweep(first, &mut second, &table), Err(Refusal::Busy));
     }
     assert_eq!(second, graph(&[9], &[]));
-    // A record past the count is nobody's.
+    // A record past the count belongs to no worker.
     table.count = 1;
     assert_eq!(sweep(&before, &mut second, &table), Ok(()));
     assert_eq!(second, before);

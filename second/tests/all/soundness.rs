@@ -1,4 +1,4 @@
-//! What makes a whole catalogue unsound for listing and sweep, and what not.
+//! What makes a whole catalogue unsound for listing and sweep, and what does not.
 
 use crate::help::{ask, graph, link, list, ADDED, MARKED, PLAIN, TRANSIT};
 use second::numbers::OUTPUT;
@@ -21,7 +21,7 @@ fn both(catalogue: &Catalogue) -> (Result<(), Refusal>, Result<(), Refusal>) {
 }
 
 /// Vertices 2, 3, 4 with keys 10, 20, 30, of which 20 is marked but still
-/// linked; edges 1 (to 30), 2 (to 20) in 10's list, edge 3 (to 30) in 20's.
+/// linked. Edges 1 (to 30), 2 (to 20) in 10's list, edge 3 (to 30) in 20's.
 fn sound() -> Catalogue {
     let mut catalogue = graph(&[10, 20, 30], &[(10, 30), (10, 20), (20, 30)]);
     assert_eq!(ask(&mut catalogue, &mut Table::new(1), 0, (2, 20, 0)), 1);
@@ -72,7 +72,7 @@ fn lists_that_do_not_rise() {
     torn(|c| c.edge_links[1] = link(2, ADDED));
     torn(|c| c.edge_links[1] = link(1, ADDED));
     torn(|c| {
-        // A marked target can have any key, yet no edge may equal the tail's.
+        // A marked target may have any key, yet no edge key may equal the tail's.
         c.vertex_keys[9] = i32::MAX;
         c.vertex_links[9] = link(0, MARKED);
         c.edge_keys[1] = i32::MAX;
@@ -97,7 +97,7 @@ fn targets_that_are_wrong() {
         c.vertex_links[9] = link(256, MARKED);
         c.edge_targets[2] = 9;
     });
-    // Marked edges are held to the same.
+    // The same holds for marked edges.
     torn(|c| {
         c.edge_links[2] = link(1, MARKED);
         c.edge_targets[2] = 4;

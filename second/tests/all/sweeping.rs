@@ -7,7 +7,7 @@ fn body(text: &str) -> String {
     text.split_once('\n').map(|(_, body)| body.to_string()).unwrap()
 }
 
-/// A catalogue with all sorts of leavings in it.
+/// A catalogue with all sorts of remains in it.
 fn used() -> Catalogue {
     let edges = [(-9, 4), (4, 7), (7, 8), (-9, 8), (0, 7), (0, 8), (3, 0)];
     let mut catalogue = graph(&[7, -9, 3, 0, 8, 4], &edges);
@@ -26,7 +26,7 @@ fn the_body_of_the_listing_outlives_a_sweep() {
     assert_eq!(first, used());
     assert_eq!(body(&list(&first)), body(&list(&second)));
     assert_eq!(body(&list(&second)), "-9\n0\n4\n7\n8\n-9 4\n-9 8\n7 0\n");
-    // Two edges to the removed 7 stood in live lists, and only in the first.
+    // Two edges to the removed 7 were in live lists, and only in the first.
     assert_eq!(list(&first).lines().next(), Some("0 5 5"));
     assert_eq!(list(&second).lines().next(), Some("0 5 3"));
 }

@@ -86,7 +86,7 @@ fn vertex_looks_leave_the_rest_unread() {
     step_answers(&with(|c| c.vertex_links[2] = bad), &lost, ON);
     let higher = standing(Place::ConV { key: 15, c: 3 });
     step_answers(&with(|c| c.vertex_links[3] = bad), &higher, Answer::Reply(2));
-    // The tail's memory is nobody's business.
+    // The tail's key and link are not read.
     let at_tail = standing(Place::AddV(vertex_spot(40, 4, 1)));
     let garbage = with(|c| {
         c.vertex_links[1] = bad;

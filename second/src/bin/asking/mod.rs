@@ -1,12 +1,12 @@
-//! What the programs that fill a catalogue share: one request by a lone worker,
-//! and sums of what was answered.
+//! Shared by the programs that fill a catalogue: one request by a lone worker,
+//! and sums of the replies.
 
 use second::{step, take_up, Answer, Catalogue, Refusal, Table};
 
 /// A request as it is taken up: its code and its keys.
 pub type Request = (u32, i32, i32);
 
-/// How many were answered 1, how many 9, how many otherwise, and all steps.
+/// How many were answered 1, 9 or otherwise, and all steps.
 #[derive(Default)]
 pub struct Tally {
     done: u32,
@@ -30,7 +30,7 @@ impl Tally {
     }
 }
 
-/// Takes up a request and steps it: the reply, and how many steps it took.
+/// Takes up a request and steps it. Returns the reply, and how many steps it took.
 pub fn perform(catalogue: &mut Catalogue, (code, k, l): Request) -> Result<(u8, u32), Refusal> {
     let mut table = Table::new(1);
     take_up(catalogue, &mut table, 0, code, k, l)?;
@@ -43,7 +43,7 @@ pub fn perform(catalogue: &mut Catalogue, (code, k, l): Request) -> Result<(u8, 
     }
 }
 
-/// The key of the n-th vertex; every other one lies below zero.
+/// The key of the n-th vertex; every other one is below zero.
 pub fn key(n: u16) -> i32 {
     if n.is_multiple_of(2) {
         i32::from(n)
@@ -52,7 +52,7 @@ pub fn key(n: u16) -> i32 {
     }
 }
 
-/// The same request on every by-th vertex from the first on.
+/// Makes the same request on every by-th vertex from the first on.
 pub fn on_vertices(
     catalogue: &mut Catalogue,
     code: u32,

@@ -1,4 +1,4 @@
-//! Damaged scripts: a small good one, spoilt in one of many ways.
+//! Damaged scripts: a small good one, damaged in one of many ways.
 
 use crate::dice::Dice;
 use crate::draft::{ended, Draft};
@@ -84,7 +84,7 @@ impl Base {
         self.lines.len() - 1
     }
 
-    /// The script with one field of one line written anew.
+    /// The script with one field of one line replaced.
     fn with_field(mut self, line: usize, field: usize, text: &str) -> Vec<u8> {
         let mut fields: Vec<&[u8]> = self.lines[line].split(|byte| *byte == b' ').collect();
         let place = field.min(fields.len() - 1);
@@ -98,14 +98,14 @@ impl Base {
         ended(&self.lines)
     }
 
-    /// The script with something put in at some place of a line.
+    /// The script with something inserted at a place of a line.
     fn with_inserted(mut self, line: usize, place: usize, what: &[u8]) -> Vec<u8> {
         let place = place.min(self.lines[line].len());
         self.lines[line].splice(place..place, what.iter().copied());
         ended(&self.lines)
     }
 
-    /// One field of a line, the last one if it has not so many.
+    /// One field of a line, the last one if the line has fewer.
     fn field(&self, line: usize, field: usize) -> String {
         let fields: Vec<&[u8]> = self.lines[line].split(|byte| *byte == b' ').collect();
         String::from_utf8_lossy(fields[field.min(fields.len() - 1)]).into_owned()
@@ -130,7 +130,7 @@ fn too_large(dice: &mut Dice) -> String {
     text
 }
 
-/// A field as it may not be written.
+/// A field in a form that is not allowed.
 fn badly(dice: &mut Dice, field: &str) -> String {
     match dice.below(6) {
         0 => format!("0{field}"),

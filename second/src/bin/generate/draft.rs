@@ -26,7 +26,7 @@ impl Draft {
         self.requests[worker].push(Request(code, k, l));
     }
 
-    /// Worker 0 adds all these vertices before anyone else does a thing.
+    /// Worker 0 adds all these vertices before another worker does anything.
     pub fn add_vertices_first(&mut self, keys: &[i32]) {
         for (before, key) in keys.iter().enumerate() {
             self.ask(0, 1, *key, 0);

@@ -14,7 +14,7 @@ use std::{env, fs};
 use dice::Dice;
 use sound::SOUND;
 
-/// Out of this many seeds in a row, those past the sound kinds give damage.
+/// Of this many seeds in a row, those after the sound kinds give damaged scripts.
 const KINDS: u64 = 13;
 
 fn main() -> ExitCode {

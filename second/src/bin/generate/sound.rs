@@ -21,7 +21,7 @@ fn contended(dice: &mut Dice) -> Draft {
     draft
 }
 
-/// Each worker adds one part of a ring, over and over, turn about.
+/// Each worker adds one part of a ring, over and over, in turn.
 fn turns(dice: &mut Dice) -> Draft {
     let mut draft = Draft::new(dice.between(2, 8));
     let workers = draft.workers();
@@ -92,7 +92,7 @@ fn vertex_pool(dice: &mut Dice) -> Draft {
 }
 
 /// As many edge nodes handed out as a script has steps for: edges come and go,
-/// or never get in.
+/// or are never added.
 fn edge_pool(dice: &mut Dice) -> Draft {
     let mut draft = Draft::new(dice.between(1, 3));
     draft.add_vertices_first(&[1, 2]);
