@@ -1,2 +1,4 @@
 // A fresh catalogue in lent memory, and the call that makes one.
+#![tactic(auto)]
+
 pub mod fresh;

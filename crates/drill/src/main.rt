@@ -1,5 +1,7 @@
 // The drill: a script from standard input, its result to standard output.
 // One byte more than the longest script is read, so that a longer one is seen to be too long.
+#![tactic(auto)]
+
 use memory::{KEYS_SIZE, WORDS_SIZE};
 use run::drills::drill;
 

@@ -1,5 +1,7 @@
 // A catalogue filled through the calls until neither pool has a node left,
 // then listed, swept, thinned out, swept again and filled again.
+#![tactic(auto)]
+
 mod edges;
 
 use asking::perform::made_number;

@@ -1,4 +1,6 @@
 // The form by reference of one step: a worker's record is stepped where it lies.
+#![tactic(auto)]
+
 ghost use Rattle.std.specs.Prelude.{◌≡◌};
 ghost use Rattle.catalogue.specs.Lent.{Sized, catalogue_in};
 ghost use Rattle.catalogue.specs.Writes.{commit};

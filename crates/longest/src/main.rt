@@ -1,5 +1,7 @@
 // Calls that come close to their bounds, on a full catalogue. ConV goes past every vertex;
 // a trial takes every vertex but one and passes every edge but its own.
+#![tactic(auto)]
+
 mod chains;
 
 use asking::perform::perform;

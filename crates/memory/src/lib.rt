@@ -1,4 +1,6 @@
 // The lent catalogue: where each field stands in the two lent slices, and one read for each.
+#![tactic(auto)]
+
 pub mod checks;
 pub mod reads;
 

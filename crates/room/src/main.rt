@@ -1,4 +1,6 @@
 // The pool of vertices runs out, and a sweep makes room again.
+#![tactic(auto)]
+
 use asking::perform::{made_number, perform};
 use asking::print::{print_line, print_tally};
 use asking::vertices::on_vertices;

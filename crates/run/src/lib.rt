@@ -1,4 +1,6 @@
 // A whole script: checked, run on memory that is made fresh, and its result written.
+#![tactic(auto)]
+
 pub mod call;
 pub mod drills;
 pub mod plays;

@@ -1,4 +1,6 @@
 // The reader of scripts: a text is checked once as a whole, and then read again from positions in it.
+#![tactic(auto)]
+
 pub mod checks;
 pub mod headers;
 pub mod keys;

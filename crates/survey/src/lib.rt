@@ -1,4 +1,6 @@
 // The soundness walk over a lent catalogue, which it only reads.
+#![tactic(auto)]
+
 pub mod edges;
 pub mod lists;
 pub mod soundness;
