@@ -17,7 +17,7 @@ use workers::table::idle_table;
 const MOST_STEPS: u32 = 10000;
 
 // The reply or the refusal, 0 if there was none after all the steps; and the steps.
-#[derive(Drop)]
+#[derive(Clone, Copy)]
 pub struct Performed {
     pub number: u8,
     pub steps: u32,

@@ -6,7 +6,7 @@ use crate::perform::Performed;
 use std::num::wrapping_add_u32;
 
 // How many were answered 1, how many 9, how many otherwise; and the steps of all of them.
-#[derive(Drop)]
+#[derive(Clone, Copy)]
 pub struct Tally {
     pub done: u32,
     pub no_room: u32,

@@ -7,7 +7,7 @@ use catalogue::workers::{Ends, Pair, Place, Prev, Reach, Worker};
 
 // A place: its kind, the request's keys, and the node numbers that the place uses; what it does not use is zero.
 #[repr(C)]
-#[derive(Drop)]
+#[derive(Clone, Copy)]
 pub struct Spot {
     pub pair: Pair,
     pub e: u16,
@@ -20,7 +20,7 @@ pub struct Spot {
 
 // A worker's record.
 #[repr(C)]
-#[derive(Drop)]
+#[derive(Clone, Copy)]
 pub struct Record {
     pub spot: Spot,
     pub reach: Reach,
@@ -28,7 +28,7 @@ pub struct Record {
 
 // The table.
 #[repr(C)]
-#[derive(Drop)]
+#[derive(Clone, Copy)]
 pub struct Kept {
     pub count: u32,
     pub records: [Record; 8],

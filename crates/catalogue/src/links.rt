@@ -3,7 +3,7 @@
 // The compiler refuses a reader that forgets the case.
 
 // A vertex's link: the next vertex, and the tag of the vertex that owns the link.
-#[derive(Drop)]
+#[derive(Clone, Copy)]
 pub enum VertexLink {
     At { next: u8, tag: u8 },
     Torn,
@@ -11,21 +11,21 @@ pub enum VertexLink {
 
 // A link that leads to an edge: a vertex's first-edge link, or the link of an edge node.
 // The tag belongs to the node that owns the link.
-#[derive(Drop)]
+#[derive(Clone, Copy)]
 pub enum EdgeLink {
     At { next: u16, tag: u8 },
     Torn,
 }
 
 // The target of an edge: a vertex number.
-#[derive(Drop)]
+#[derive(Clone, Copy)]
 pub enum Target {
     At { vertex: u8 },
     Torn,
 }
 
 // What a pool has left: the node that it hands out next, or nothing, or a count that the pool cannot have.
-#[derive(Drop)]
+#[derive(Clone, Copy)]
 pub enum Room {
     Next { node: u16 },
     Full,

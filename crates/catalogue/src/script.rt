@@ -2,7 +2,7 @@
 // refusal 27 carries the number of the first bad line.
 use crate::answers::Refusal;
 
-#[derive(Drop)]
+#[derive(Clone, Copy)]
 pub enum Ran {
     Written { bytes: u32 },
     Refused { refusal: Refusal },

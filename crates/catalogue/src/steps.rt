@@ -3,7 +3,7 @@ use crate::workers::Place;
 use crate::writes::Write;
 
 // One look of AddV and RemV at p and c.
-#[derive(Drop)]
+#[derive(Clone, Copy)]
 pub enum VertexSeen {
     Torn,
     // p's link is not (c, PLAIN)
@@ -17,7 +17,7 @@ pub enum VertexSeen {
 }
 
 // One look of ConV at c, which the edge calls share to find u and v.
-#[derive(Drop)]
+#[derive(Clone, Copy)]
 pub enum VertexFound {
     Torn,
     Onward { next: u8 },
@@ -26,7 +26,7 @@ pub enum VertexFound {
 }
 
 // u and v, looked at together: one of them is marked, or both stand.
-#[derive(Drop)]
+#[derive(Clone, Copy)]
 pub enum BothSeen {
     Torn,
     Dead,
@@ -34,7 +34,7 @@ pub enum BothSeen {
 }
 
 // An edge c at which a look settles: p's tag, c's next and tag, and whether c's key is equal.
-#[derive(Drop)]
+#[derive(Clone, Copy)]
 pub struct Landed {
     pub kept: u8,
     pub next: u16,
@@ -43,7 +43,7 @@ pub struct Landed {
 }
 
 // One look of AddE and RemE at p and c: a case for each of (a) to (f).
-#[derive(Drop)]
+#[derive(Clone, Copy)]
 pub enum EdgeSeen {
     Torn,
     Dead,
@@ -57,7 +57,7 @@ pub enum EdgeSeen {
 
 // What a step decides. It has read all that it reads;
 // the record after it and at most one write follow from this alone.
-#[derive(Drop)]
+#[derive(Clone, Copy)]
 pub enum Decision {
     Torn,
     // no call has this code

@@ -1,7 +1,7 @@
 // A worker's record, and the table of workers.
 
 // What stands before the current edge: the first-edge link of u, or an edge node.
-#[derive(Drop)]
+#[derive(Clone, Copy)]
 pub enum Prev {
     First,
     Edge { edge: u16 },
@@ -10,14 +10,14 @@ pub enum Prev {
 // The keys of an edge call: series l is derived from series k. The layout is C's, since records in lent memory hold
 // it.
 #[repr(C)]
-#[derive(Drop)]
+#[derive(Clone, Copy)]
 pub struct Pair {
     pub k: i32,
     pub l: i32,
 }
 
 // The keys of an edge call, and the vertices found for them: u for k, v for l.
-#[derive(Drop)]
+#[derive(Clone, Copy)]
 pub struct Ends {
     pub pair: Pair,
     pub u: u8,
@@ -26,7 +26,7 @@ pub struct Ends {
 
 // Where a worker stands: idle, or at one place of one request,
 // with the request's keys and the node numbers that the place uses.
-#[derive(Drop)]
+#[derive(Clone, Copy)]
 pub enum Place {
     Idle,
     AddV { k: i32, p: u8, c: u8 },
@@ -53,7 +53,7 @@ pub enum Place {
 // How far a trial has got: the set of vertices met, and the queue of vertices with its two ends. The layout is C's,
 // as that of a pair.
 #[repr(C)]
-#[derive(Drop)]
+#[derive(Clone, Copy)]
 pub struct Reach {
     pub met: [u64; 4],
     pub queue: [u8; 256],
@@ -62,7 +62,7 @@ pub struct Reach {
 }
 
 // What a step of a trial reads of it: the set met, the vertex at the front of the queue, and the queue's ends.
-#[derive(Drop)]
+#[derive(Clone, Copy)]
 pub struct Ahead {
     pub met: [u64; 4],
     pub x: u8,
@@ -71,21 +71,21 @@ pub struct Ahead {
 }
 
 // The place, and beside it what a trial keeps.
-#[derive(Drop)]
+#[derive(Clone, Copy)]
 pub struct Worker {
     pub place: Place,
     pub reach: Reach,
 }
 
 // The workers numbered below the count; the records from the count on are unused.
-#[derive(Drop)]
+#[derive(Clone, Copy)]
 pub struct Table {
     pub count: u32,
     pub workers: [Worker; 8],
 }
 
 // A request: its code, and its keys; codes 1 to 3 use k alone.
-#[derive(Drop)]
+#[derive(Clone, Copy)]
 pub struct Request {
     pub code: u32,
     pub pair: Pair,

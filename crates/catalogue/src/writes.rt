@@ -1,7 +1,7 @@
 // The one change that a step may make in the lent catalogue.
 // Each case turns one link that another worker can reach, or none. A node that is handed out is filled first.
 // In a catalogue that steps have made no worker reaches it before the last link of its case is turned.
-#[derive(Drop)]
+#[derive(Clone, Copy)]
 pub enum Write {
     Nothing,
     // the link of a vertex

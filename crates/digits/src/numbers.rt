@@ -3,7 +3,7 @@ ghost use Rattle.std.specs.Prelude.{◌≡◌};
 ghost use Rattle.digits.specs.Digits.{digit_at, digits_at};
 
 // The value and the index of the first byte after the digits. A number above 2147483647 is none.
-#[derive(Drop)]
+#[derive(Clone, Copy)]
 pub enum Digits {
     None,
     At { value: u32, next: usize },

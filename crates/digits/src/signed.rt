@@ -5,7 +5,7 @@ ghost use Rattle.digits.specs.Digits.{signed_at};
 use crate::numbers::{Digits, read_digits};
 
 // As for a number without a sign.
-#[derive(Drop)]
+#[derive(Clone, Copy)]
 pub enum Signed {
     None,
     At { value: i32, next: usize },

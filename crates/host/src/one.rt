@@ -18,7 +18,7 @@ use workers::records::bare;
 use workers::requests::busy_at;
 
 // The record after the call, and what the call returns.
-#[derive(Drop)]
+#[derive(Clone, Copy)]
 pub struct Moved {
     pub kept: Record,
     pub told: u64,

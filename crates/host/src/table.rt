@@ -10,7 +10,7 @@ use workers::checks::one_to;
 use workers::records::idle;
 
 // The table after the call, and what the call returns.
-#[derive(Drop)]
+#[derive(Clone, Copy)]
 pub struct Tabled {
     pub table: Kept,
     pub told: u64,

@@ -13,7 +13,7 @@ use survey::tests::{first_edge, is_added, is_live, next_edge, next_vertex, unmar
 use text::lines::{put_one, put_pair};
 
 // What the contents line counts: live vertices, and the ADDED edges in their lists.
-#[derive(Drop)]
+#[derive(Clone, Copy)]
 pub struct Counted {
     pub vertices: usize,
     pub edges: usize,

@@ -3,7 +3,7 @@ use catalogue::workers::Table;
 
 // The workers; where in the text each worker's next request stands, and how many it has left; how many replies there
 // are, and how many bytes their lines.
-#[derive(Drop)]
+#[derive(Clone, Copy)]
 pub struct State {
     pub table: Table,
     pub at: [usize; 8],

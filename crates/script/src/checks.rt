@@ -6,7 +6,7 @@ use crate::headers::{Heading, read_header};
 use crate::shares::{Skipped, read_shares};
 use crate::turns::{After, check_schedule};
 
-#[derive(Drop)]
+#[derive(Clone, Copy)]
 pub enum Verdict {
     Good,
     Bad { line: u32 },
@@ -14,7 +14,7 @@ pub enum Verdict {
 
 // How many requests each worker has and where its first one stands, for the workers below the number of workers;
 // and where the schedule begins, with so many turns. All is zero where the verdict is bad.
-#[derive(Drop)]
+#[derive(Clone, Copy)]
 pub struct Checked {
     pub verdict: Verdict,
     pub workers: u32,

@@ -6,7 +6,7 @@ ghost use Rattle.script.specs.Headers.{Counted, told, header_parts, header_line,
 use crate::numbers::{Number, read_number};
 
 // Whether the line is a header, and what it says. The counts from the number of workers on belong to no worker.
-#[derive(Drop)]
+#[derive(Clone, Copy)]
 pub struct Heading {
     pub good: bool,
     pub workers: u32,

@@ -7,7 +7,7 @@ use crate::numbers::{End, end_at};
 use digits::signed::{Signed, read_signed};
 
 // As for a number.
-#[derive(Drop)]
+#[derive(Clone, Copy)]
 pub enum Key {
     Bad,
     At { key: i32, next: usize, last: bool },

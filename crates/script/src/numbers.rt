@@ -6,14 +6,14 @@ ghost use Rattle.script.specs.Words.{number_at, end_at};
 use digits::numbers::{Digits, read_digits};
 
 // A number, where the text goes on, and whether the number is the last word of its line.
-#[derive(Drop)]
+#[derive(Clone, Copy)]
 pub enum Number {
     Bad,
     At { value: u32, next: usize, last: bool },
 }
 
 // What ends a word: a space, so that more follows in its line, or the line's end.
-#[derive(Drop)]
+#[derive(Clone, Copy)]
 pub enum End {
     None,
     At { next: usize, last: bool },

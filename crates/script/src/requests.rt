@@ -7,7 +7,7 @@ use crate::numbers::{Number, read_number};
 use catalogue::workers::{Pair, Request};
 
 // The request of a line, and where the next line begins.
-#[derive(Drop)]
+#[derive(Clone, Copy)]
 pub enum Line {
     Bad,
     Read { request: Request, next: usize },

@@ -5,14 +5,14 @@ ghost use Rattle.script.specs.Shares.{Sharing, skip_at, starts_at, starts_told, 
 use crate::requests::{Line, read_request};
 
 // The number of the first bad line, or where the text goes on after all.
-#[derive(Drop)]
+#[derive(Clone, Copy)]
 pub enum Skipped {
     Bad { line: u32 },
     At { next: usize },
 }
 
 // The same, and where the lines of each worker begin.
-#[derive(Drop)]
+#[derive(Clone, Copy)]
 pub struct Shares {
     pub skipped: Skipped,
     pub starts: [usize; 8],

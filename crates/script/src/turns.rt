@@ -5,14 +5,14 @@ ghost use Rattle.script.specs.Turns.{turn_at, turns_at, schedule_at};
 use crate::numbers::{Number, read_number};
 
 // Where the text goes on after what was read.
-#[derive(Drop)]
+#[derive(Clone, Copy)]
 pub enum After {
     Bad,
     At { next: usize },
 }
 
 // The worker whose turn it is, and where the next turn stands.
-#[derive(Drop)]
+#[derive(Clone, Copy)]
 pub struct Turn {
     pub worker: u32,
     pub next: usize,

@@ -8,7 +8,7 @@ use catalogue::links::EdgeLink;
 use memory::reads::first_link;
 
 // What the walk found: how many live edges, where all edges are sound.
-#[derive(Drop)]
+#[derive(Clone, Copy)]
 pub enum Edges {
     Sound { live: u32 },
     Unsound,

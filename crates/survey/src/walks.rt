@@ -7,7 +7,7 @@ use crate::tests::{next_vertex, vertex_sound};
 use workers::met::{met_has, with_met};
 
 // What the walk found. The set is of use only where all is sound.
-#[derive(Drop)]
+#[derive(Clone, Copy)]
 pub struct Walked {
     pub sound: bool,
     pub met: [u64; 4],

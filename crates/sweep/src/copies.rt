@@ -11,7 +11,7 @@ use memory::reads::{edge_key, vertex_key};
 use survey::tests::is_live;
 
 // Where the next edge of a list goes: n edges are made, of which p is the last one with this source.
-#[derive(Drop)]
+#[derive(Clone, Copy)]
 pub struct Tip {
     pub source: u8,
     pub n: u16,

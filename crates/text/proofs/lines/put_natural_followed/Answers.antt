@@ -1,0 +1,12 @@
+-- The number and the byte after it are one run.
+use Rattle.text.proofs.Naturals.{natural_cases}
+use Rattle.text.proofs.lines.put_natural_followed.Goals as goal
+
+pub put_byte-requires : goal.put_byte-requires
+put_byte-requires c = search natural_cases
+
+pub returns-clause-output_after : goal.returns-clause-output_after
+returns-clause-output_after c = search natural_cases
+
+pub returns-clause-value : goal.returns-clause-value
+returns-clause-value c = search natural_cases

@@ -1,0 +1,12 @@
+-- A number with a space after it and the line of the other two are the line of all.
+use Rattle.text.proofs.Naturals.{natural_cases}
+use Rattle.text.proofs.lines.put_three.Goals as goal
+
+pub put_two-requires : goal.put_two-requires
+put_two-requires c = search natural_cases
+
+pub returns-clause-output_after : goal.returns-clause-output_after
+returns-clause-output_after c = search natural_cases
+
+pub returns-clause-value : goal.returns-clause-value
+returns-clause-value c = search natural_cases
