@@ -10,7 +10,7 @@ use lib.Dec.{eqb}
 use borrow.Author.Tests.{eq-eqb, ne_eqb}
 use Rattle.laws.proofs.Picks.{clash}
 use Rattle.row.proofs.Base.{same?}
-use Rattle.row.specs.Rows.Row.{Call, History, Entry, All, nil, also, By, Replays, times, InOrder, Genuine, Explains, Event, quiet, acts, looks}
+use Rattle.row.specs.Rows.Row.{Call, History, Entry, All, nil, also, Replays, times, InOrder, Genuine, Explains, Event, quiet, acts, looks}
 
 -- ---- lists
 
@@ -41,11 +41,11 @@ module _ {G Req Rep : Type 0} (does : G → Req → Rep → G → Type 0) where
     stop : {g : G} → g ≡ h → Runs h g []
     go : {g k : G} {e : Entry Req Rep} {es : List (Entry Req Rep)} → does g e.call.request e.call.reply k → Runs h k es → Runs h g (e ∷ es)
 
-  runs_append : {g h k : G} {xs ys : List (Entry Req Rep)} → Runs h g xs → Runs k h ys → Runs k g (xs ++ ys)
+  runs_append : {h g k : G} {xs ys : List (Entry Req Rep)} → Runs h g xs → Runs k h ys → Runs k g (xs ++ ys)
   runs_append (stop e) s = rw e s
   runs_append (go e r) s = go e (runs_append r s)
 
-  runs_replay : {g h : G} {xs : List (Entry Req Rep)} → Runs h g xs → Replays does g xs h
+  runs_replay : {h g : G} {xs : List (Entry Req Rep)} → Runs h g xs → Replays does g xs h
   runs_replay (stop e) = e
   runs_replay (go {k = k} e r) = (k, e, runs_replay r)
 
@@ -110,6 +110,9 @@ module _ {G Req Rep : Type 0} (does : G → Req → Rep → G → Type 0) (count
   before zero = zero
   before (suc s) = s
 
+  late_now : (s j : ℕ) → s ≡ j → R (H.live (suc s)) (H.live s) (block (suc s) j ++ pick (suc s) j (ev j))
+  late_now s j q = rw q (runs_append does (early j j (omega arith)) (pick_now j (ev j)))
+
   late : (t m : ℕ) → t ≤ m → R (H.live t) (H.live (before t)) (block t m)
   unfolding block
   late zero zero h = stop refl
@@ -117,7 +120,7 @@ module _ {G Req Rep : Type 0} (does : G → Req → Rep → G → Type 0) (count
   late zero (suc j) h = runs_append does (late zero j (omega arith)) (pick_late zero j (omega arith) (ev j))
   late (suc s) (suc j) h =
       elim (same? s j) [
-        | inl q ↦ rw q (runs_append does (early j j (omega arith)) (pick_now j (ev j)))
+        | inl q ↦ late_now s j q
         | inr n ↦ runs_append does (late (suc s) j (omega arith)) (pick_late (suc s) j (omega arith) (ev j))
       ]
 
@@ -217,12 +220,12 @@ module _ {G Req Rep : Type 0} (does : G → Req → Rep → G → Type 0) (count
   one_here b p c = elim (one? p b p c) [ is q z ↦ rw (z, eq-eqb b b refl) | not n z ↦ absurd (n refl) ]
 
   placed : (i : ℕ) (c : Call Req Rep) → H.answered (suc i) ≡ some c → counts c ≡ true → (p : ℕ) × (p ≤ suc i) × At i p
-  placed i c a b = By (ev i) refl
+  placed i c a b = by (ev i) refl
     where
-      By : (e : Ev i) → ev i ≡ e → (p : ℕ) × (p ≤ suc i) × At i p
-      By (quiet q e) w = clash (cc (q c a))
-      By (acts d a' b' f s) w = (suc i, omega arith, record { here = rw w (one_here (suc i) (suc i) d); only = λ t n. rw (w, ne_eqb (suc i) t n) })
-      By (looks d a' b' l p f u s) w = (p, omega arith, record { here = rw w (one_here (suc i) p d); only = λ t n. rw (w, ne_eqb p t n) })
+      by : (e : Ev i) → ev i ≡ e → (p : ℕ) × (p ≤ suc i) × At i p
+      by (quiet q e) w = clash (cc (q c a))
+      by (acts d a' b' f s) w = (suc i, omega arith, record { here = rw w (one_here (suc i) (suc i) d); only = λ t n. rw (w, ne_eqb (suc i) t n) })
+      by (looks d a' b' l p f u s) w = (p, omega arith, record { here = rw w (one_here (suc i) p d); only = λ t n. rw (w, ne_eqb p t n) })
 
   once : (n b : ℕ) (c : Call Req Rep) → 1 ≤ b → b ≤ n → H.answered b ≡ some c → counts c ≡ true → times b (row n n) ≡ 1
   once n zero c l h a k = absurd (omega arith)

@@ -197,6 +197,7 @@ pub more_vertices : {W X : World} → WGood W → Both W X → W.v.used ≤ X.v.
 more_vertices {W} g b = by W.v.used g.good.sound.some b.vm.stays
   where
     by : (n : ℕ) {m : ℕ} → 2 ≤ n → ((x : ℕ) → x < n → x < m) → n ≤ m
+    by zero {m = m} h s = elim h [ ]
     by (suc n) h s = s n (omega arith)
 
 both : {W X : World} {n : ℕ} → Deed W X n → Both W X

@@ -95,7 +95,7 @@ module _ (s : ℕ → Choice) (honest : Honest WGood s) where
   unfolding conf
   conf_next n ch e = ap (act (conf s n)) e
 
-  -- ---- what is known of a worker By what it did
+  -- ---- what is known of a worker by what it did
 
   -- u was found within the call
   record Found (a n : ℕ) (k : ℤ) (u : ℕ) : Type 0 where
@@ -211,11 +211,11 @@ module _ (s : ℕ → Choice) (honest : Honest WGood s) where
   stepped n b pl o x a (does_past r d m e w) = rested a.early
 
   takes_world : (n v : ℕ) (q : Ask) → s n ≡ takes v q → wd (suc n) ≡ wd n
-  takes_world n v q e = ap (λ X. X.world) (conf_next n (takes v q) e) ∙ By (takable (conf s n).at v q)
+  takes_world n v q e = ap (λ X. X.world) (conf_next n (takes v q) e) ∙ by (takable (conf s n).at v q)
     where
-      By : (b : Bool) → (cond b (record { world = wd n; at = upd (conf s n).at v (starts (wd n) q) }) (conf s n)).world ≡ wd n
-      By true = refl
-      By false = refl
+      by : (b : Bool) → (cond b (record { world = wd n; at = upd (conf s n).at v (starts (wd n) q) }) (conf s n)).world ≡ wd n
+      by true = refl
+      by false = refl
 
   stand_new : (n : ℕ) (W : World) → wd (suc n) ≡ W → (k : ℤ) → Legal k → Stand (suc n) (suc n) k (W.v.next 0)
   stand_new n W e k l = rw e at (here (suc n) (suc n) k (omega arith) l)
@@ -245,12 +245,12 @@ module _ (s : ℕ → Choice) (honest : Honest WGood s) where
         | inl q ↦ rw (upd_at (conf s n).at v (move (wd n) ((conf s n).at v)).spot w q) (rw q (itself n v (y (λ W z. clash (cc))) (rw q at a)))
         | inr m ↦ rw (upd_other (conf s n).at v (move (wd n) ((conf s n).at v)).spot w m) (wait (x w) a)
       ]
-  next n w (takes v q) e x y a = By (takable (conf s n).at v q) refl
+  next n w (takes v q) e x y a = by (takable (conf s n).at v q) refl
     where
-      By : (b : Bool) → takable (conf s n).at v q ≡ b
+      by : (b : Bool) → takable (conf s n).at v q ≡ b
           → Asked (suc n) (since (cond (eqb v w && b) (some q) none) (suc n) (began s w n))
           ((cond b (record { world = wd n; at = upd (conf s n).at v (starts (wd n) q) }) (conf s n)).at w)
-      By true f =
+      by true f =
           let k = (and_true (ltb v 8) (resting ((conf s n).at v) && allowed q) f).1 in
           elim (same? w v) [
             | inl z ↦
@@ -258,12 +258,12 @@ module _ (s : ℕ → Choice) (honest : Honest WGood s) where
                 (begun n (wd n) (takes_world n v q e) q (starts_legal q (and_true (resting ((conf s n).at v)) (allowed q) k).1))
             | inr d ↦ rw (ne_eqb v w (λ z. d (sym z)), upd_other (conf s n).at v (starts (wd n) q) w d) (wait (x w) a)
           ]
-      By false f = elim (same? w v) [ inl z ↦ rw (eq-eqb v w (sym z)) (wait (x w) a) | inr d ↦ rw (ne_eqb v w (λ z. d (sym z))) (wait (x w) a) ]
-  next n w (sweeps W) e x y a = By (all_rest 8 (conf s n).at)
+      by false f = elim (same? w v) [ inl z ↦ rw (eq-eqb v w (sym z)) (wait (x w) a) | inr d ↦ rw (ne_eqb v w (λ z. d (sym z))) (wait (x w) a) ]
+  next n w (sweeps W) e x y a = by (all_rest 8 (conf s n).at)
     where
-      By : (b : Bool) → Asked (suc n) (began s w n) ((cond b (record { world = W; at = (conf s n).at }) (conf s n)).at w)
-      By true = wait (x w) a
-      By false = wait (x w) a
+      by : (b : Bool) → Asked (suc n) (began s w n) ((cond b (record { world = W; at = (conf s n).at }) (conf s n)).at w)
+      by true = wait (x w) a
+      by false = wait (x w) a
 
   goes_on : (n v : ℕ) → Goes_on n ((conf s n).at v)
   goes_on n v = elim (moves s honest n) [ inl b ↦ inl b | inr r ↦ inr (r v) ]
@@ -292,7 +292,7 @@ module _ (s : ℕ → Choice) (honest : Honest WGood s) where
   not_there a n k c x w (inl m) = dead_marked 0 1 S sorted (span x) w m.0 m.1
   not_there a n k c x w (inr h) = dead_above 0 1 S sorted (span x) w h
 
-  -- found, and marked By now
+  -- found, and marked by now
   killed : (a n : ℕ) (k : ℤ) (u : ℕ) → Span a n → Found a n k u → (wd n).v.marked u ≡ true → DeadK a n k
   killed a n k u x f m =
       let z = marked_between 0 1 S sorted a n (span x) f.when u f.low f.high f.inside f.plain m in
@@ -366,13 +366,13 @@ module _ (s : ℕ → Choice) (honest : Honest WGood s) where
         (ap (λ X. graph X.world) (conf_next j (steps v) e)) (done j v (asked j v))
 
   pub happens : (j : ℕ) → Ev j
-  happens j = By (s j) refl
+  happens j = by (s j) refl
     where
       swept : (W : World) → s j ≡ sweeps W → (b : Bool) → graph (cond b (record { world = W; at = (conf s j).at }) (conf s j)).world ≡ graph (wd j)
       swept W e true = (honest j W e (fine s honest j).good).2
       swept W e false = refl
 
-      By : (ch : Choice) → s j ≡ ch → Ev j
-      By (takes v q) e = quiet (λ c z. clash (cc (ap (said s j) e))) (ap graph (takes_world j v q e))
-      By (steps v) e = step_event j v e
-      By (sweeps W) e = quiet (λ c z. clash (cc (ap (said s j) e))) (ap (λ X. graph X.world) (conf_next j (sweeps W) e) ∙ swept W e (all_rest 8 (conf s j).at))
+      by : (ch : Choice) → s j ≡ ch → Ev j
+      by (takes v q) e = quiet (λ c z. clash (cc (ap (said s j) e))) (ap graph (takes_world j v q e))
+      by (steps v) e = step_event j v e
+      by (sweeps W) e = quiet (λ c z. clash (cc (ap (said s j) e))) (ap (λ X. graph X.world) (conf_next j (sweeps W) e) ∙ swept W e (all_rest 8 (conf s j).at))

@@ -14,7 +14,7 @@ use Rattle.row.proofs.Lists.Kept.{step_sound, step_moves}
 use Rattle.row.specs.Machine.Vertices.{live}
 use Rattle.row.proofs.Graphs.LiveSet.{present_live, present_yes, yes_present}
 use Rattle.row.proofs.Tests.{eqZ_yes, eqZ_no, same_key?, and_true, bool_iff}
-use Rattle.row.specs.Lists.Edges.{Tag, marked, transit, added, Prev, at, einsert, retag}
+use Rattle.row.specs.Lists.Edges.{Tag, marked, transit, added, Prev, einsert, retag}
 use Rattle.row.specs.Machine.World.{World, with_e, edges, put_edge, between}
 use Rattle.row.proofs.Graphs.Good.{WGood}
 use Rattle.row.proofs.Graphs.Graph.{PresentE, edge_yes, yes_edge, edge_no, same_at}

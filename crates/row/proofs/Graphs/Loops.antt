@@ -40,7 +40,7 @@ module _ (W : World) (g : WGood W) where
   edge_of p = record { low = p.low; high = p.high; is_added = p.is; source = p.source; target = p.goal }
 
   -- a walk over keys is a walk over nodes
-  walk_over : {x y : ℤ} → Walk (edges W) y x → (a : ℕ) → Plain W x a → (b : ℕ) → Plain W y b → Over a b
+  walk_over : {y x : ℤ} → Walk (edges W) y x → (a : ℕ) → Plain W x a → (b : ℕ) → Plain W y b → Over a b
   walk_over {y = y} (end e) a p b q = Older.end (one_v y a b (rw e at p) q)
   walk_over (via {x = x} z e w) a p b q =
       let r = yes_edge W x z e in

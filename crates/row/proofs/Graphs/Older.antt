@@ -14,7 +14,7 @@ pub data Trail (P : ℕ → Type 0) (from to : ℕ → ℕ) (y : ℕ) : ℕ → 
   end : {x : ℕ} → x ≡ y → Trail P from to y x
   via : {x : ℕ} (e : ℕ) → P e → from e ≡ x → Trail P from to y (to e) → Trail P from to y x
 
-pub trail_append : {P : ℕ → Type 0} {from to : ℕ → ℕ} {x y z : ℕ} → Trail P from to y x → Trail P from to z y → Trail P from to z x
+pub trail_append : {P : ℕ → Type 0} {from to : ℕ → ℕ} {y x z : ℕ} → Trail P from to y x → Trail P from to z y → Trail P from to z x
 trail_append (end q) t = rw q t
 trail_append (via e p q r) t = via e p q (trail_append r t)
 
@@ -56,7 +56,7 @@ module _ (C : World) where
     without : AW C n x y → Cut n x y
     cut : AW C n x (C.e.owner n) → AddedE C n → AW C (suc n) (C.e.target n) y → Cut n x y
 
-  cut_at : (n : ℕ) {x y : ℕ} → AW C (suc n) x y → Cut n x y
+  cut_at : (n : ℕ) {y x : ℕ} → AW C (suc n) x y → Cut n x y
   cut_at n (end q) = without (end q)
   cut_at n {y = y} (via {x = x} e p q r) = ⊎_elim same (other (cut_at n r)) (same? e n)
     where

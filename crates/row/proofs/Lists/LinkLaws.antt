@@ -10,7 +10,7 @@ use Rattle.row.proofs.Base.{<ℤ-trans}
 use Rattle.row.specs.Lists.Links.{Run, stop, go, View, Reached, Sorted, Live}
 use Rattle.row.specs.Lists.Edges.{at, Edges, InList, Mine, EInner}
 
-pub run_trans : {N : Type 0} {nx : N → N} {tl a b c : N} → Run nx tl b a → Run nx tl c b → Run nx tl c a
+pub run_trans : {N : Type 0} {nx : N → N} {tl b a c : N} → Run nx tl b a → Run nx tl c b → Run nx tl c a
 run_trans (stop e) s = rw e s
 run_trans (go h r) s = go h (run_trans r s)
 
@@ -18,17 +18,17 @@ pub run_tail : {N : Type 0} {nx : N → N} {tl a b : N} → (b ≡ a → ⊥) �
 run_tail h (stop e) = absurd (h (sym e))
 run_tail h (go k r) = r
 
-pub det : {N : Type 0} {nx : N → N} {tl a b c : N} → Run nx tl b a → Run nx tl c a → Run nx tl c b ⊎ Run nx tl b c
+pub det : {N : Type 0} {nx : N → N} {tl b a c : N} → Run nx tl b a → Run nx tl c a → Run nx tl c b ⊎ Run nx tl b c
 det (stop e) q = inl (rw e at q)
 det (go h r) (stop e) = inr (rw e at (go h r))
 det (go h r) (go k q) = det r q
 
 module _ {N : Type 0} (hd tl : N) (C : View N) (s : Sorted hd tl C) where
-  pub run_in : {a b : N} → C.mine a → Run C.next tl b a → C.mine b
+  pub run_in : {b a : N} → C.mine a → Run C.next tl b a → C.mine b
   run_in h (stop e) = rw e at h
   run_in {a = a} h (go n r) = run_in (s.follows a h n).inside r
 
-  pub run_above : {a b : N} → C.mine a → Run C.next tl b a → (a ≡ b) ⊎ (C.key a <ℤ C.key b)
+  pub run_above : {b a : N} → C.mine a → Run C.next tl b a → (a ≡ b) ⊎ (C.key a <ℤ C.key b)
   run_above h (stop e) = inl e
   run_above {a = a} h (go n r) =
       let f = s.follows a h n in
