@@ -20,7 +20,7 @@ use Rattle.promises.specs.Bounds.{QuietMost, CallMost, ConVBound, ConEBound}
 use Rattle.promises.proofs.Showing.Shows.{Stands}
 use Rattle.promises.proofs.Runs.Held.{Held}
 use Rattle.promises.proofs.Runs.Course.{held_at}
-use Rattle.promises.proofs.Bounds.Far.{far, limit, entered}
+use Rattle.promises.proofs.Bounds.Far.{far, limit, EnteredSpot}
 use Rattle.promises.proofs.Bounds.Looking.{head_passed}
 use Rattle.promises.proofs.Runs.Taking.{taking_both, begins}
 use Rattle.promises.proofs.Bounds.Rising.{bounded}
@@ -28,7 +28,7 @@ use Rattle.promises.proofs.Bounds.Rising.{bounded}
 -- where a call with a bound begins
 pub record First (W : World) (s : Spot) (most : ℕ) : Type 0 where
   pub limited : limit s ≡ suc most
-  pub enters : entered s
+  pub enters : EnteredSpot s
   pub begun : 1 ≤ far W s
 
 -- a request whose first place has a limit

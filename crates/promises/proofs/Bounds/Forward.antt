@@ -11,7 +11,7 @@ use Rattle.row.specs.Machine.Moves.{move}
 use Rattle.row.proofs.Steps.Spots.{Ok}
 use Rattle.row.proofs.Graphs.Good.{WGood}
 use Rattle.promises.proofs.Showing.Shows.{Stands}
-use Rattle.promises.proofs.Bounds.Far.{over, behind, far_in, far, limit, entered, vertices_most, edges_most}
+use Rattle.promises.proofs.Bounds.Far.{over, behind, far_in, far, limit, EnteredSpot, vertices_most, edges_most}
 use Rattle.promises.proofs.Bounds.Looking.{OnlyFurther, con_v_further, find_u_further, find_v_further, con_e_further}
 use Rattle.promises.proofs.Bounds.Trying.{trial_further, taken_most}
 
@@ -36,7 +36,7 @@ module _ (W : World) (few : W.v.used ≤ 256) (few_edges : W.e.used ≤ 2048) (w
   far_most (ConE k l u v c) p h = omega (arith, edges_most W few_edges (behind (λ x. false) u (W.e.key c)))
   far_most (Trial k l u v e z) p h = in_most z.taken z.stand (taken_most _ _ _ _ p.1.searched)
 
-  pub goes_further : WGood W → (s : Spot) → Ok W s → Stands W.v.used w s → entered s → 1 ≤ limit s → OnlyFurther W s (move W s)
+  pub goes_further : WGood W → (s : Spot) → Ok W s → Stands W.v.used w s → EnteredSpot s → 1 ≤ limit s → OnlyFurther W s (move W s)
   goes_further g Rest o p i h = absurd (omega arith)
   goes_further g (Vert Idle) o p i h = absurd (omega arith)
   goes_further g (Vert (AddV k q c)) o p i h = absurd (omega arith)

@@ -3,7 +3,7 @@
 use Prim.Native.Nat.{ℕ, suc, ◌≤◌, ◌<◌}
 use mathlib.Core.Bool.{Bool, true, false, cond, not, ◌&&◌, ◌||◌}
 use mathlib.Core.Logic.{inl}
-use mathlib.Core.Option.{none, some}
+use mathlib.Core.Option.{none}
 use mathlib.Core.Path.{◌≡◌, refl}
 use native.Mathlib.Omega.{arith}
 use lib.Dec.{eqb}
@@ -20,13 +20,13 @@ use Rattle.row.proofs.Steps.VertexDeeds.{Legal, not_tail}
 use Rattle.row.proofs.Graphs.Good.{WGood}
 use Rattle.row.proofs.Lists.LinkLaws.{no_tail}
 use Rattle.row.proofs.Steps.EdgeMeans.{below_tail}
-use Rattle.promises.proofs.Bounds.Far.{vertices_passed, far, limit, entered, vertices_most}
+use Rattle.promises.proofs.Bounds.Far.{vertices_passed, far, limit, EnteredSpot, vertices_most}
 use Rattle.promises.proofs.Bounds.Passing.{vertex_passed, edge_passed}
 
 -- where a call is after a step: further, and under the same limit
 pub record Further (W : World) (s : Spot) (n : Next) : Type 0 where
   pub same : limit n.spot ≡ limit s
-  pub enters : entered n.spot
+  pub enters : EnteredSpot n.spot
   pub rises : suc (far W s) ≤ far n.world n.spot
 
 -- what goes on without a reply is further

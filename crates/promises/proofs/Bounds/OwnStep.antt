@@ -11,7 +11,6 @@ use Rattle.catalogue.specs.Workers.{busy}
 use Rattle.catalogue.specs.declared.answers.Answer.{Answer}
 use Rattle.catalogue.specs.declared.answers.Answer.TheVariants as answer
 use Rattle.laws.proofs.Picks.{clash}
-use Rattle.row.specs.Machine.Choices
 use Rattle.row.specs.Machine.Moves.{move}
 use Rattle.row.specs.Machine.Choices.{Conf}
 use Rattle.promises.specs.Bounds.{is_reply}

@@ -9,7 +9,6 @@ use native.Mathlib.Omega.{arith}
 use lib.IntN.{ℤ}
 use Rattle.laws.proofs.Picks.{clash}
 use Rattle.row.proofs.Base.{upd_at, upd_other, same?}
-use Rattle.row.specs.Lists.Edges.{marked, at}
 use Rattle.row.specs.Machine.World.{World, closed, opened, Hunt, stands_at, meets, took, Trial, Next, goes}
 use Rattle.row.specs.Machine.Moves.{move}
 use Rattle.row.proofs.Steps.Spots.{StandOk}

@@ -4,7 +4,7 @@ use mathlib.Core.Bool.{true}
 use mathlib.Core.Path.{◌≡◌, refl}
 use borrow.Author.Tests.{eqb-true, eqb-false, leb-false}
 use lib.Dec.{eqb, leb}
-use Rattle.catalogue.specs.Numbers.{edge_tail, marked, added, plain, room}
+use Rattle.catalogue.specs.Numbers.{edge_tail, marked, added}
 use Rattle.catalogue.specs.Catalogue.{Catalogue, vertex_link, first_link, edge_link, edge_target, at_mark}
 use Rattle.catalogue.specs.Live.{unmarked}
 use Rattle.catalogue.specs.Workers.{has}

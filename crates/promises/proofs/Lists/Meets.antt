@@ -122,18 +122,18 @@ module _ (C : Catalogue) (W : World) (s : Shows C W) (g : WGood W) where
     pub distinct_e : Distinct (edges_of C u)
     distinct_e = walk_distinct (next_edge C) 0 W.e.key Own rises_e 2048 (first_edge C u) start_e
 
-    run_e : (c e : ℕ) → Own c → Run (λ y. at (link W.e u y)) (at 0) (at e) (at c) → Run (next_edge C) 0 e c
-    run_e c e m (stop q) = stop {a = c} (cc)
-    run_e c e m (go d r) =
+    run_e : (e c : ℕ) → Own c → Run (λ y. at (link W.e u y)) (at 0) (at e) (at c) → Run (next_edge C) 0 e c
+    run_e e c m (stop q) = stop {a = c} (cc)
+    run_e e c m (go d r) =
         let n : c ≡ 0 → ⊥ = λ q. d (ap at q) in
-        go n (rw (next_e c m n) (run_e (W.e.next c) e ((g.esound.sorted u).follows (at c) m d).inside r))
+        go n (rw (next_e c m n) (run_e e (W.e.next c) ((g.esound.sorted u).follows (at c) m d).inside r))
 
     pub meets_e : (e : ℕ) → InList W.e u e → is_marked (W.e.tag e) ≡ false → member e (edges_of C u) ≡ true
     meets_e e i t =
         let a = i.low in
         let r = run_tail (λ q. clash (cc)) ((g.esound.sorted u).linked (at e) (inr i) t) in
         walk_meets (next_edge C) 0 W.e.key Own rises_e 2048 (first_edge C u) start_e below (omega arith) e
-        (rw first_is (run_e (W.e.first u) e (rw first_is at start_e) r)) (λ q. omega arith)
+        (rw first_is (run_e e (W.e.first u) (rw first_is at start_e) r)) (λ q. omega arith)
       where
         below : (x : ℕ) → Own x → x < 2048
         below x (inl z) = omega arith

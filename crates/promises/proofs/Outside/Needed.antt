@@ -104,6 +104,7 @@ module _ (workers : ℕ) (m : Moment) (X : Conf) (h : Held workers m X) (most : 
           let seen = sees C W h.shows g l ends.u b c ok.0.legal ok.1 k ends.v st.1 (series_of ok.0.source) (series_of ok.0.goal) in
           let z = no_edge W g k l ends.u ends.v ok.0 b c ok.1 _ _ at (ap (λ q. look_at_edge C ends q c) s.same ∙ q) new seen (emeans W l ends.u ends.v b c) in
           a_derivation (series_is C W h.shows g k ∙ z.source) (series_is C W h.shows g l ∙ z.goal) (derived_is C W h.shows g k l ∙ z.none)
+  needs pl is z = elim z [ ]
 
   pub needed : Lacks C (place_of m w) → Needed (Graphs.live C) (place_of m w)
   needed z = needs (place_of m w) refl z

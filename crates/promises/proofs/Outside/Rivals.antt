@@ -39,7 +39,6 @@ use Rattle.promises.proofs.Runs.Held.{Held}
 use Rattle.promises.proofs.Runs.Course.{held_at}
 use Rattle.promises.proofs.Fates.Told.{Seven, Told, in_row, lacks, loops}
 use Rattle.promises.proofs.Fates.Any.{fate}
-use Rattle.promises.proofs.Fates.Told
 use Rattle.promises.proofs.Outside.Replies.{replied_by, unwritten}
 use Rattle.promises.proofs.Outside.Spots.{Looks, adds_spot, trier}
 

@@ -45,6 +45,7 @@ module _ (C : Catalogue) (w : Worker) (asked : Asked w.place) where
       (refl, (decides C w (AddV k p c) e asked).1 ∙ rw (q, room_full 254 2 C.counts.vertices (omega arith) (omega arith)) refl)
   needs (AddE ends p c) e (an_edge at q new full) =
       (refl, (decides C w (AddE ends p c) e asked).1 ∙ rw (q, new, room_full 2047 1 C.counts.edges (omega arith) (omega arith)) refl)
+  needs pl e z = elim z [ ]
 
 -- where 9 is replied
 given : (m : Moment) (w : ℕ) → Replies m w 9 → Lacks m.catalogue (place_of m w) × (left m w ≡ m.catalogue)

@@ -118,11 +118,11 @@ pub one_row : OneRow
 one_row workers choices g = assemble _ _ _ Alone in_row (history workers choices) (event workers choices (run workers choices g)) (length choices)
 
 -- what answers no call of the row is quiet, or only looks
-kept : {workers : ℕ} {choices : List Choice} {j : ℕ} → Event Alone in_row (history workers choices) j
+kept : (workers : ℕ) (choices : List Choice) {j : ℕ} → Event Alone in_row (history workers choices) j
     → ((c : Call Ask ℕ) → answered workers choices (suc j) ≡ some c → in_row c ≡ false) → (history workers choices).live (suc j) ≡ (history workers choices).live j
-kept (quiet q e) f = e
-kept (acts c a b i d) f = clash (cc (f c a))
-kept (looks c a b e t i u d) f = e
+kept workers choices (quiet q e) f = e
+kept workers choices (acts c a b i d) f = clash (cc (f c a))
+kept workers choices (looks c a b e t i u d) f = e
 
 pub live_kept : LiveKept
-live_kept workers choices g n f = kept {workers = workers} {choices = choices} (event workers choices (run workers choices g) n) f
+live_kept workers choices g n f = kept workers choices (event workers choices (run workers choices g) n) f

@@ -16,7 +16,7 @@ use Rattle.catalogue.specs.declared.workers.Worker.{Worker}
 use Rattle.catalogue.specs.declared.writes.Write.TheVariants as write
 use Rattle.laws.proofs.Picks.{clash}
 use Rattle.row.proofs.Base.{lt_or}
-use Rattle.row.specs.Lists.Edges.{Tag, marked, transit, added, Prev, at, is_marked, link, einsert, retag}
+use Rattle.row.specs.Lists.Edges.{Tag, marked, transit, added, Prev, is_marked, link, einsert, retag}
 use Rattle.row.specs.Machine.World.{World, goes, hunt_from, with_e}
 use Rattle.row.specs.Machine.Moves.{settles}
 use Rattle.promises.proofs.Showing.Shows.{Shows, Series, Allowed, Follows, prev_of, edge_tag_of, at_trial}

@@ -67,6 +67,7 @@ module _ (C : Catalogue) (W : World) (s : Shows C W) (g : WGood W) (w : Worker) 
   finds_u q c (finds.Onward n) lower seeks_on a d = to_u q (W.v.next c) a d
   finds_u q c finds.Found found seeks_found a d = to_v q c (W.v.next 0) a (d ∙ rw (head_reads C W s g.good))
   finds_u q c finds.Missing missing seeks_missing a d = not_there q d
+  finds_u q c z t n a d = elim n [ ]
 
   -- ---- v
 
@@ -89,6 +90,7 @@ module _ (C : Catalogue) (W : World) (s : Shows C W) (g : WGood W) (w : Worker) 
   finds_v q u c (finds.Onward n) lower i seeks_on a d = to_v q u (W.v.next c) a d
   finds_v q u c finds.Found found i seeks_found a d = to_edges q u c (first_fits C W s u (series_of i)) a (d ∙ rw (s.firsts u i.low i.high))
   finds_v q u c finds.Missing missing i seeks_missing a d = not_there q d
+  finds_v q u c z t i n a d = elim n [ ]
 
 pub find_u_follows : (q : Kind) (k l : ℤ) (c : ℕ) → FollowsAt (FindU q k l c)
 unfolding step_find_u

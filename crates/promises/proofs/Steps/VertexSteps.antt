@@ -99,6 +99,7 @@ module _ (C : Catalogue) (W : World) (s : Shows C W) (g : WGood W) (w : Worker) 
     add_follows (seen.Onward n) onward sees_lower a d = looks_on true a W Nothing (unwritten C W s) c (D.next c) d
     add_follows (seen.Settles n true) settle (sees_equal h x q) a d = rw q (says_so C W s w 2 d)
     add_follows (seen.Settles n false) settle (sees_above m i e q) a d = rw q (settles_new i e d)
+    add_follows z t n a d = elim n [ ]
 
     rem_follows : (z : VertexSeen) (t : Seen) → Looked D k p c z t → Allowed 2 → Decides (decide_vertex C 2 k p c z)
         → Follows C w (vmove W (rem D k p c t))
@@ -109,6 +110,7 @@ module _ (C : Catalogue) (W : World) (s : Shows C W) (g : WGood W) (w : Worker) 
     rem_follows (seen.Settles n true) settle (sees_equal h x q) a d =
         rw q (says_with C w (with_v W (mark D c)) (VertexLink c (D.next c) marked) (shows_mark C W s c h x) 1 d)
     rem_follows (seen.Settles n false) settle (sees_above m i e q) a d = rw q (says_so C W s w 2 d)
+    rem_follows z t n a d = elim n [ ]
 
   -- ConV sees as a look for u does, and replies at once.
   abbrev contains : ℕ → VSeen → Out
@@ -129,6 +131,7 @@ module _ (C : Catalogue) (W : World) (s : Shows C W) (g : WGood W) (w : Worker) 
   con_follows c (finds.Onward n) lower seeks_on a d = walks_on C W s w (place.ConV k (D.next c)) (Vert (ConV k (D.next c))) d a refl
   con_follows c finds.Found found seeks_found a d = says_so C W s w 1 d
   con_follows c finds.Missing missing seeks_missing a d = says_so C W s w 2 d
+  con_follows c z t n a d = elim n [ ]
 
 pub vertex_follows : (pl : Place) → FollowsAt (Vert pl)
 unfolding step_vertex step_contains

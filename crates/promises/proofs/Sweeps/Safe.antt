@@ -40,7 +40,7 @@ module _ (asks : Asks) (C : Catalogue) (s : sound asks C ≡ true) (again : soun
       rw w.same_key was
 
   -- a trail of the world is a walk
-  follow : {P : ℕ → Type 0} {x y : ℕ} → ((e : ℕ) → P e → LiveE (swept_world C) e)
+  follow : {P : ℕ → Type 0} {y x : ℕ} → ((e : ℕ) → P e → LiveE (swept_world C) e)
       → Trail P (swept_world C).e.owner (swept_world C).e.target y x → Walk (live C) (key y) (key x)
   follow f (end q) = rw q here
   follow f (via e p q r) = let l = f e p in rw (← q) (over (key ((swept_world C).e.target e)) (edge_before e l.low l.high) (follow f r))
