@@ -1,7 +1,7 @@
 -- Each way out is a case of the definition.
 use Rattle.survey.proofs.Told.{met_on, eqZ_both_true, eqZ_both_false}
 use Rattle.laws.proofs.Ways.{on_true, on_false, vertex_at, vertex_torn}
-use Rattle.std.proofs.Common.{sfits_of}
+use borrow.Author.Rules.{sfits_of}
 use borrow.Author.Tests.{eq-eqb, ne_eqb}
 use Rattle.survey.proofs.tests.target_sound.Goals as goal
 
