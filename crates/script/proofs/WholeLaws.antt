@@ -26,7 +26,7 @@ use Rattle.script.specs.declared.shares.Skipped.{Skipped}
 use Rattle.script.specs.declared.shares.Skipped.TheVariants as skipped
 use Rattle.script.specs.declared.turns.After.{After}
 use Rattle.script.specs.declared.turns.After.TheVariants as after
-use Rattle.script.specs.declared.checks.Verdict.TheVariants.{Good, Bad}
+use Rattle.script.specs.declared.checks.Verdict.TheVariants.{Good}
 use Rattle.script.specs.declared.checks.Checked.{Checked}
 use Rattle.laws.proofs.Cases.{lt_or}
 use Rattle.script.proofs.ReadLaws.{line_read, skip_read}
