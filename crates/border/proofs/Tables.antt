@@ -21,10 +21,6 @@ use Rattle.border.proofs.kept.Kept.TheLaws as K'
 pub table_sized : table_size ≡ size (lone (K.the_row).mir)
 table_sized = refl
 
--- a table that is there has eight records
-pub eight_records : (t : Kept) (v : Val) → Is K.the_row t (v ∷ []) → length t.records ≡ 8
-eight_records t v is = sym (length-map t.records _) ∙ (LL.owed K.the_type K'.the_laws t (v ∷ []) is).1.0.1.0.1
-
 -- so many members of a list, from a number on
 abbrev members_from : {A : Type 0} → A → List A → ℕ → ℕ → List A
 members_from d l i zero = []
