@@ -1,4 +1,4 @@
--- Worked examples, proved about the definitions by computing them.
+-- Worked examples: what is done, and what it must give. proofs/Examples proves each.
 pub mod Rows
 pub mod Checked
 pub mod Damaged

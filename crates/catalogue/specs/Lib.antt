@@ -1,5 +1,5 @@
 -- Document 01 as definitions, in its order. Each file renders one section or a part of one.
--- Nothing is proved here but the examples.
+-- Nothing is proved here: what the worked examples state is proved in proofs/.
 pub mod Tests
 pub mod Numbers
 pub mod Catalogue

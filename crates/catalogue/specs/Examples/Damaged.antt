@@ -1,8 +1,7 @@
 -- Document 01, "Replies and refusals": for each refusal 20 to 27 two damaged calls or more, which give its number
 -- and change nothing. Where two refusals would fit, the first in the order of the table is given.
-use Rattle.std.specs.Prelude.{ℕ, ◌≡◌, refl, List, [], ◌∷◌, ℤ, pos, replicate}
+use Rattle.std.specs.Prelude.{ℕ, ◌≡◌, List, [], ◌∷◌, ℤ, pos, replicate}
 use Prim.Native.String.{String}
-use Rattle.catalogue.specs.Tests.{table_from}
 use Rattle.catalogue.specs.Numbers.{least, greatest, head, plain, link}
 use Rattle.catalogue.specs.Catalogue.{Catalogue, fresh}
 use Rattle.catalogue.specs.Writes.{with_vertex_link}
@@ -11,9 +10,9 @@ use Rattle.catalogue.specs.Answers.{told, made_number, told_listed, told_ran}
 use Rattle.catalogue.specs.Calls.{After, take_up, step}
 use Rattle.catalogue.specs.Sweep.{AfterSweep, sweep_into}
 use Rattle.catalogue.specs.Listing.{AfterListing, list_into}
-use Rattle.catalogue.specs.Lent.{Memory, LentCall, LentRun, lay, sized, output_fits, lent_take_up, lent_listing, lent_run}
+use Rattle.catalogue.specs.Lent.{Memory, LentCall, LentRun, lay, lent_take_up, lent_listing, lent_run}
 use Rattle.catalogue.specs.Choosing.{start, after}
-use Rattle.catalogue.specs.Examples.Rows.{bytes, found, call, ends, in_trial}
+use Rattle.catalogue.specs.Examples.Rows.{bytes, call, ends, in_trial}
 use Rattle.catalogue.specs.Examples.Checked.{on_trial}
 use Rattle.catalogue.specs.declared.workers.Table.{Table}
 use Rattle.catalogue.specs.declared.workers.Place.TheVariants.{Trial}
@@ -119,7 +118,3 @@ table =
     ∷ running "1 1 2\n1 05\n0 0\n" good_memory good_output 27 2
     ∷ running "1 0 0\n\n\n" good_memory good_output 27 3
     ∷ []
-
-pub all_refused : AllRefused table
-unfolding found left left_lent left_sweep left_listing left_run after lay sized output_fits lent_take_up lent_listing lent_run list_into table_from
-all_refused = (refl, (refl, (refl, (refl, (refl, (refl, (refl, (refl, (refl, (refl, (refl, (refl, (refl, (refl, (refl, (refl, (refl, (refl, (refl, (refl, (refl, (refl, (refl, (refl, tt))))))))))))))))))))))))

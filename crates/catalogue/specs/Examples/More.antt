@@ -1,10 +1,10 @@
 -- Examples beside P1 to P10, for what those ten do not cover.
-use Rattle.std.specs.Prelude.{ℕ, ◌≡◌, refl, List, [], ◌∷◌, ◌++◌, map, pos, negsuc}
+use Rattle.std.specs.Prelude.{ℕ, List, [], ◌∷◌, ◌++◌, pos, negsuc}
 use Rattle.catalogue.specs.Numbers.{least, greatest}
 use Rattle.catalogue.specs.Choosing.{Choice, sweeps}
 use Rattle.catalogue.specs.Workers.{asks}
-use Rattle.catalogue.specs.Script.{Script, good, script_text, read_script}
-use Rattle.catalogue.specs.Examples.Rows.{Example, prints, answers, meets, bytes, found, expected, call, stepped}
+use Rattle.catalogue.specs.Script.{Script}
+use Rattle.catalogue.specs.Examples.Rows.{Example, prints, answers, meets, call, stepped}
 use Rattle.catalogue.specs.Examples.Checked.{unused, both_inserted, on_trial}
 
 -- The target of an ADDED edge is removed: the contents line still counts the edge, and no line shows it.
@@ -188,20 +188,12 @@ line_rules =
     ∷ []
 
 -- A script as it is written, and read back: two workers, a request with one key and one with two, and three turns.
-abbrev written_script : Script
+abbrev pub written_script : Script
 written_script = record {
   counts = 1 ∷ 1 ∷ [];
   requests = asks 3 (negsuc 6) unused ∷ asks 4 (pos 0) (negsuc 0) ∷ [];
   schedule = 1 ∷ 0 ∷ 1 ∷ [];
 }
-
-pub written_out : script_text written_script ≡ bytes "2 1 1 3\n3 -7\n4 0 -1\n1 0 1\n"
-unfolding found script_text
-written_out = refl
-
-pub read_back : read_script (script_text written_script) ≡ good written_script
-unfolding found script_text
-read_back = refl
 
 abbrev pub table : List Example
 table =
@@ -209,7 +201,3 @@ table =
     ∷ removed_passed ∷ contained ∷ kept_on_trial ∷ left_behind ∷ vertex_behind ∷ edge_behind ∷ open_target_removed ∷ almost_loop 7 ∷ almost_loop 8
     ∷ old_target ∷ source_removed ∷ target_removed ∷ inserted_between ∷ trial_left_alone ∷ inserted_behind_trial ∷ withdrawn ∷ dead_target_passed
     ∷ listed_on_trial ∷ line_rules
-
-pub checked : map found table ≡ map expected table
-unfolding found expected
-checked = refl

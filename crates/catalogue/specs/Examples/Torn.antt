@@ -1,7 +1,7 @@
 -- Document 01, "The steps", the paragraph on TORN, and "Sweep and listing", its first paragraph:
 -- one step, one listing or one sweep on memory or a record that no run makes.
 -- It answers 26, a reply, or 0 for going on. Where only what is not read is damaged, the call goes well.
-use Rattle.std.specs.Prelude.{ℕ, ◌≡◌, refl, List, [], ◌∷◌, ◌++◌, map, ℤ, pos}
+use Rattle.std.specs.Prelude.{ℕ, List, [], ◌∷◌, ◌++◌, ℤ, pos}
 use Rattle.catalogue.specs.Tests.{upd}
 use Rattle.catalogue.specs.Numbers.{least, greatest, head, tail, edge_tail, plain, marked, transit, added, link}
 use Rattle.catalogue.specs.Catalogue.{Catalogue, fresh}
@@ -12,7 +12,7 @@ use Rattle.catalogue.specs.Calls.{step}
 use Rattle.catalogue.specs.Sweep.{sweep_into}
 use Rattle.catalogue.specs.Listing.{list_into}
 use Rattle.catalogue.specs.Choosing.{start, after}
-use Rattle.catalogue.specs.Examples.Rows.{found, call, stepped, between, ends, in_trial}
+use Rattle.catalogue.specs.Examples.Rows.{call, stepped, between, ends, in_trial}
 use Rattle.catalogue.specs.Examples.Checked.{unused, on_trial}
 use Rattle.catalogue.specs.declared.workers.Place.{Place}
 use Rattle.catalogue.specs.declared.workers.Place.TheVariants.{AddV, ConV, AddEFindV, AddE, RemE, ConE, Trial, TrialOpen}
@@ -40,7 +40,7 @@ stated (sweeps C n) = n
 
 -- What is damaged: the head leads to 2, which has key 5, and 2 to 3, which has key 7;
 -- the edge 1 leads from 5 to 7 and is ADDED. A second one has no edge.
-abbrev whole : Catalogue
+abbrev pub whole : Catalogue
 whole = (after (start 1) (on_trial ++ stepped 0 3)).catalogue
 
 abbrev edgeless : Catalogue
@@ -163,12 +163,3 @@ unsound =
 
 abbrev pub table : List Row
 table = torn_memory ++ (torn_records ++ (reads ++ unsound))
-
-pub checked : map answered table ≡ map stated table
-unfolding found after list_into
-checked = refl
-
--- A step writes zeros to what its new place has no use for, whatever stood there.
-pub cleared : (step whole (put (idle_table 1) 0 (in_trial (ConV (pos 7) 2) 1 2)) 0).table ≡ put (idle_table 1) 0 (bare (ConV (pos 7) 3))
-unfolding found after
-cleared = refl

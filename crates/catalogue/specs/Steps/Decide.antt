@@ -1,5 +1,4 @@
 -- Document 01, "The steps": one step of a worker by its place; what the record is after it, and what is answered.
-use Rattle.std.specs.Prelude.{ℕ}
 use Rattle.catalogue.specs.Tests.{pick}
 use Rattle.catalogue.specs.Catalogue.{Catalogue}
 use Rattle.catalogue.specs.Workers.{idle, bare, begun, kept, queued, taken, met_count, request_of, ahead}
