@@ -1,4 +1,4 @@
-/* The calls of the catalogue of series. Link with libhost.a, which `rt staticlib host` writes.
+/* The calls of the catalogue of series. Link with libhost.a, which `tools/build host` writes.
  *
  * The library keeps no state: the host lends all memory. Two calls that are lent the same memory may not run at the
  * same time. The pieces of memory that one call is lent may not overlap. Every call ends and accesses only what it is
