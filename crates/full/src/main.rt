@@ -2,13 +2,13 @@
 // then listed, swept, thinned out, swept again and filled again.
 #![tactic(auto)]
 
-mod edges;
+mod many_edges;
 
+use asking::many_vertices::on_vertices;
 use asking::perform::made_number;
 use asking::print::{print_line, print_listing, print_tally};
-use asking::vertices::on_vertices;
 use clearing::fresh::fresh;
-use edges::on_edges;
+use many_edges::on_edges;
 use memory::{KEYS_SIZE, WORDS_SIZE};
 use std::io;
 use sweep::sweep::sweep;

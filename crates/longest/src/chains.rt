@@ -2,7 +2,7 @@
 ghost use Rattle.std.specs.Prelude.{◌≤◌};
 
 use asking::perform::perform;
-use asking::vertices::key;
+use asking::many_vertices::key;
 
 // From each vertex but the first, up to an end, to the one that stands so far after it.
 fn add_chain(keys: &mut [i32], words: &mut [u32], apart: u8, end: u16)

@@ -6,7 +6,7 @@ mod chains;
 
 use asking::perform::perform;
 use asking::print::{print_line, print_tally};
-use asking::vertices::{key, on_vertices};
+use asking::many_vertices::{key, on_vertices};
 use chains::add_chains;
 use clearing::fresh::fresh;
 use memory::{KEYS_SIZE, WORDS_SIZE};

@@ -1,9 +1,9 @@
 // The pool of vertices runs out, and a sweep makes room again.
 #![tactic(auto)]
 
+use asking::many_vertices::on_vertices;
 use asking::perform::{made_number, perform};
 use asking::print::{print_line, print_tally};
-use asking::vertices::on_vertices;
 use clearing::fresh::fresh;
 use memory::{KEYS_SIZE, WORDS_SIZE};
 use std::io;

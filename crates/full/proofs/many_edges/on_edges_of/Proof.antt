@@ -1,17 +1,16 @@
--- The vertices that are left become fewer at each turn.
-use Rattle.std.proofs.Common.{◌≡◌, ◌-◌, length, rules}
-use Rattle.asking.proofs.vertices.on_vertices.Statement.{statement}
-use Rattle.asking.proofs.vertices.on_vertices.Tie as tie
+-- The target falls at each turn.
+use mathlib.Core.Path.{◌≡◌}
+use lib.ListN.{length}
+use borrow.Author.Rules.{rules}
+use Rattle.full.proofs.many_edges.on_edges_of.Statement.{statement}
+use Rattle.full.proofs.many_edges.on_edges_of.Tie as tie
 
 abbrev invariant-loop : tie.invariant-loop
-invariant-loop keys₀ words₀ code first by tally₀ n₀ keys words tally n =
+invariant-loop keys₀ words₀ code n tally₀ target₀ keys words tally target =
     (length keys ≡ length keys₀) × (length words ≡ length words₀)
 
 abbrev decreases-loop : tie.decreases-loop
-decreases-loop keys₀ words₀ code first by tally₀ n₀ keys words tally n = 254 - n
-
-none-requires : tie.Need-none-requires invariant-loop decreases-loop
-none-requires c κs = search rules
+decreases-loop keys₀ words₀ code n tally₀ target₀ keys words tally target = target
 
 loop-holds : tie.Need-loop-init invariant-loop decreases-loop
 loop-holds c = search rules
@@ -19,14 +18,14 @@ loop-holds c = search rules
 key-requires : tie.Need-key-requires invariant-loop decreases-loop
 key-requires c κs = search rules
 
+key-requires-2 : tie.Need-key-requires-2 invariant-loop decreases-loop
+key-requires-2 c κs = search rules
+
 perform-requires : tie.Need-perform-requires invariant-loop decreases-loop
 perform-requires c κs = search rules
 
 counted-requires : tie.Need-counted-requires invariant-loop decreases-loop
 counted-requires c κs = search rules
-
-add-n : tie.Need-overflow-add-n invariant-loop decreases-loop
-add-n c = search rules
 
 loop-less : tie.Need-loop-smaller invariant-loop decreases-loop
 loop-less c = search rules
@@ -43,18 +42,17 @@ same-length-2 c = search rules
 returns : tie.Need-returns invariant-loop decreases-loop
 returns c = search rules
 
-pub on-vertices-spec : {M : Type 1} → statement M
-on-vertices-spec =
+pub on-edges-of-spec : {M : Type 1} → statement M
+on-edges-of-spec =
     tie.close
     (tie.spec
     invariant-loop
     decreases-loop
-    none-requires
     loop-holds
     key-requires
+    key-requires-2
     perform-requires
     counted-requires
-    add-n
     loop-less
     loop-again
     same_length

@@ -3,8 +3,8 @@ use mathlib.Core.Path.{◌≡◌}
 use Prim.Native.Nat.{◌-◌}
 use lib.ListN.{length}
 use borrow.Author.Rules.{rules}
-use Rattle.full.proofs.edges.on_edges.Statement.{statement}
-use Rattle.full.proofs.edges.on_edges.Tie as tie
+use Rattle.full.proofs.many_edges.on_edges.Statement.{statement}
+use Rattle.full.proofs.many_edges.on_edges.Tie as tie
 
 abbrev invariant-loop : tie.invariant-loop
 invariant-loop keys₀ words₀ code by tally₀ n₀ keys words tally n =

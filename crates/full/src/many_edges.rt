@@ -2,9 +2,9 @@
 // which is more edges than fit. The trial of a new one has the edges of its target to go through.
 ghost use Rattle.std.specs.Prelude.{◌<◌};
 
+use asking::many_vertices::{VERTICES, key};
 use asking::perform::perform;
 use asking::tally::{Tally, counted, none};
-use asking::vertices::{VERTICES, key};
 
 const APART: u16 = 14;
 
