@@ -1,8 +1,8 @@
 // All edges but one, between the vertices from the second on, so that each can be reached from the second.
 ghost use Rattle.std.specs.Prelude.{◌≤◌};
 
-use asking::perform::perform;
 use asking::many_vertices::key;
+use asking::perform::perform;
 
 // From each vertex but the first, up to an end, to the one that stands so far after it.
 fn add_chain(keys: &mut [i32], words: &mut [u32], apart: u8, end: u16)

@@ -4,9 +4,9 @@
 
 mod chains;
 
+use asking::many_vertices::{key, on_vertices};
 use asking::perform::perform;
 use asking::print::{print_line, print_tally};
-use asking::many_vertices::{key, on_vertices};
 use chains::add_chains;
 use clearing::fresh::fresh;
 use memory::{KEYS_SIZE, WORDS_SIZE};
