@@ -2,27 +2,12 @@
 // One byte more than the longest script is read, so that a longer one is seen to be too long.
 #![tactic(auto)]
 
-ghost use Rattle.std.specs.Prelude.{◌≤◌, length, IfOk};
+mod reading;
 
 use memory::{KEYS_SIZE, WORDS_SIZE};
+use reading::read_full;
 use run::drills::drill;
 use std::io;
-use std::io::Read;
-
-// Reads until the buffer is full or the input ends, and returns how many bytes it put at the start of the buffer.
-fn read_full<R: Read>(input: &mut R, buffer: &mut [u8]) -> io::Result<usize>
-    ensures { IfOk result (λ n. n ≤ length buffer.new) }
-{
-    let mut done = 0;
-    while done < buffer.len() {
-        let n = input.read(&mut buffer[done..])?;
-        if n == 0 {
-            break;
-        }
-        done += n;
-    }
-    Ok(done)
-}
 
 fn main(rt: HostRuntime) -> io::Result<()> {
     let mut text = [0u8; 49153];
