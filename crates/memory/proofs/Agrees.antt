@@ -1,5 +1,4 @@
--- Two catalogues that agree at every number of their pools, as a catalogue and what its memory holds do.
--- They are laid as one memory, and agree after the same write.
+-- Two catalogues that agree are laid as one memory, and agree after the same write.
 use Prim.Native.Nat.{ℕ, ◌<◌}
 use mathlib.Core.Path.{◌≡◌, refl, ap, ◌∙◌}
 use lib.IntN.{ℤ}
@@ -11,18 +10,8 @@ use Rattle.catalogue.specs.Writes.{with_vertex_link, with_first, with_edge_link,
 use Rattle.catalogue.specs.Lent.{view, lay}
 use Rattle.catalogue.specs.declared.writes.Write.{Write}
 use Rattle.catalogue.specs.declared.writes.Write.TheVariants.{Nothing, VertexLink, NewVertex, FirstEdge, EdgeLink, NewFirst, NewEdge}
+pub use Rattle.memory.proofs.Agreement.{Agree}
 use Rattle.memory.proofs.Laid.{length_keys, length_words, laid_vkey, laid_ekey, laid_vlink, laid_first, laid_target, laid_elink, laid_keys, laid_words}
-
--- equal counts, and equal fields at every number of their pools
-pub record Agree (C D : Catalogue) : Type 0 where
-  pub vertices : C.counts.vertices ≡ D.counts.vertices
-  pub edges : C.counts.edges ≡ D.counts.edges
-  pub vkeys : (n : ℕ) → n < vertex_pool → C.vertices.key n ≡ D.vertices.key n
-  pub vlinks : (n : ℕ) → n < vertex_pool → C.vertices.link n ≡ D.vertices.link n
-  pub firsts : (n : ℕ) → n < vertex_pool → C.vertices.first n ≡ D.vertices.first n
-  pub ekeys : (n : ℕ) → n < edge_pool → C.edges.key n ≡ D.edges.key n
-  pub targets : (n : ℕ) → n < edge_pool → C.edges.target n ≡ D.edges.target n
-  pub elinks : (n : ℕ) → n < edge_pool → C.edges.link n ≡ D.edges.link n
 
 pub agree_laid : (C : Catalogue) → Agree (view (lay C)) C
 unfolding lay

@@ -3,5 +3,6 @@ pub mod Words
 pub mod Sizes
 pub mod Tables
 pub mod Laid
+pub mod Agreement
 pub mod Agrees
 pub mod Slices
