@@ -1,8 +1,5 @@
 -- The loop keeps what the law of a filled list says: zero before i, and what was there from i on.
-use Prim.Native.Nat.{◌-◌}
-use lib.IntN.{pos}
-use lib.ListN.{length}
-use Rattle.clearing.proofs.Fills.{Filled, fills}
+use Rattle.clearing.proofs.Fills.{fills}
 use Rattle.clearing.proofs.fresh.clear_keys.Goals as goal
 
 pub loop-i-preserved : goal.loop-i-preserved

@@ -2,7 +2,7 @@
 use Prim.Native.Nat.{◌-◌}
 use lib.IntN.{pos}
 use lib.ListN.{length}
-use Rattle.clearing.proofs.Fills.{Filled, fills}
+use Rattle.clearing.proofs.Fills.{Filled}
 use Rattle.clearing.proofs.fresh.clear_keys.Given as goal
 
 abbrev pub invariant-loop-i : goal.invariant-loop-i

@@ -1,7 +1,7 @@
 -- The loop keeps what the law of a filled list says: zero before i, and what was there from i on.
 use Prim.Native.Nat.{◌-◌}
 use lib.ListN.{length}
-use Rattle.clearing.proofs.Fills.{Filled, fills}
+use Rattle.clearing.proofs.Fills.{Filled}
 use Rattle.clearing.proofs.fresh.clear_words.Given as goal
 
 abbrev pub invariant-loop-i : goal.invariant-loop-i

@@ -1,7 +1,5 @@
 -- The loop keeps what the law of a copied run says: the bytes before i are put.
-use Prim.Native.Nat.{◌-◌}
-use lib.ListN.{length}
-use Rattle.text.proofs.Copies.{Copied, copies}
+use Rattle.text.proofs.Copies.{copies}
 use Rattle.text.proofs.puts.put_bytes.Goals as goal
 
 pub loop-i-preserved : goal.loop-i-preserved

@@ -1,7 +1,7 @@
 -- The loop keeps what the law of a copied run says: the bytes before i are put.
 use Prim.Native.Nat.{◌-◌}
 use lib.ListN.{length}
-use Rattle.text.proofs.Copies.{Copied, copies}
+use Rattle.text.proofs.Copies.{Copied}
 use Rattle.text.proofs.puts.put_bytes.Given as goal
 
 abbrev pub invariant-loop-i : goal.invariant-loop-i

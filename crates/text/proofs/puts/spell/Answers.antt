@@ -1,7 +1,5 @@
 -- The loop keeps that the digits of what is left and those stored are those of the number.
-use native.Mathlib.Omega.{arith}
-use lib.ListN.{length-set}
-use Rattle.text.proofs.Spelling.{Spelling, spelling_room, spellings}
+use Rattle.text.proofs.Spelling.{spelling_room, spellings}
 use Rattle.text.proofs.puts.spell.Goals as goal
 
 pub overflow_sub-first : goal.overflow_sub-first

@@ -1,7 +1,5 @@
 -- The loop keeps that the digits of what is left and those stored are those of the number.
-use native.Mathlib.Omega.{arith}
-use lib.ListN.{length-set}
-use Rattle.text.proofs.Spelling.{Spelling, spelling_room, spellings}
+use Rattle.text.proofs.Spelling.{Spelling}
 use Rattle.text.proofs.puts.spell.Given as goal
 
 abbrev pub invariant-loop-rest : goal.invariant-loop-rest

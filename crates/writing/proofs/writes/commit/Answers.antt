@@ -1,5 +1,5 @@
 -- Each arm calls the function of its kind, whose contract is the definition at that kind.
-use Rattle.writing.proofs.Commits.{asks, kinds}
+use Rattle.writing.proofs.Commits.{kinds}
 use Rattle.writing.proofs.writes.commit.Goals as goal
 
 pub returns-in-Nothing : goal.returns-in-Nothing
