@@ -3,7 +3,6 @@ pub mod Runs
 pub mod Decimals
 pub mod Copies
 pub mod Spelling
-pub mod Magnitudes
 pub mod Signs
 pub mod LineLaws
 pub mod Naturals

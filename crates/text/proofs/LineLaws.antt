@@ -13,8 +13,8 @@ use lib.ListN.{length, length-append}
 use Rattle.catalogue.specs.Text.{number, spaced, line, line_end, space}
 use Rattle.text.specs.Puts.{put_at}
 use Rattle.text.proofs.Decimals.{length_number}
-use Rattle.text.proofs.Magnitudes.{read}
 use Rattle.text.proofs.Runs.{put_then, end_then}
+use Rattle.text.proofs.Signs.{read}
 
 abbrev pub followed : ℤ → ℕ → List ℕ
 followed n b = number n ++ (b ∷ [])

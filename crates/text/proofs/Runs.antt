@@ -1,19 +1,15 @@
 -- Runs of bytes that are put one after the other are one run, and none changes how long the output is.
-use Prim.Native.Nat.{ℕ, ◌+◌, ◌≤◌, ◌<◌}
-use mathlib.Core.List.{List, [], ◌∷◌, ◌++◌, append_assoc}
+use Prim.Native.Nat.{ℕ, ◌+◌, ◌≤◌}
+use mathlib.Core.List.{List, ◌++◌, append_assoc}
 use mathlib.Core.Path.{◌≡◌, sym, ap, ◌∙◌}
 use native.Mathlib.Omega.{arith}
 use native.Mathlib.Nat.{add_assoc}
-use native.Mathlib.Numerals.{add-one}
-use lib.ListN.{length, set, take, drop, length-append, length-take, length-drop}
-use lib.Seq.{set_split, take_at, drop-append-add, drop-drop}
+use lib.ListN.{length, take, drop, length-append, length-take, length-drop}
+use lib.Seq.{take_at, drop-append-add, drop-drop}
 use Rattle.text.specs.Puts.{put_at}
 
 pub length_put_at : (l : List ℕ) (at : ℕ) (bytes : List ℕ) → at + length bytes ≤ length l → length (put_at l at bytes) ≡ length l
 length_put_at l at bytes h = simp (length-append, length-take, length-drop) (omega arith)
-
-pub put_one : (l : List ℕ) (at b : ℕ) → at < length l → set l at b ≡ put_at l at (b ∷ [])
-put_one l at b h = rw (add-one, set_split)
 
 module _ (l : List ℕ) (at : ℕ) (a b : List ℕ) (fits : at + length (a ++ b) ≤ length l) where
   pub put_twice : put_at (put_at l at a) (at + length a) b ≡ put_at l at (a ++ b)

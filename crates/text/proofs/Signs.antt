@@ -5,7 +5,7 @@ use mathlib.Core.List.{List, [], ◌∷◌}
 use mathlib.Core.Path.{◌≡◌, refl, sym, ap, ◌∙◌}
 use native.Mathlib.Omega.{arith}
 use mir.Syntax.{w32}
-use mir.Val.{SFits}
+use mir.Val.{SFits, of_z, to_z}
 use mir.Facts.{to_z-of_z}
 use lib.IntN.{ℤ, pos, negsuc, nat_abs}
 use lib.ListN.{length}
@@ -14,8 +14,11 @@ use borrow.Author.Tests.{ltb-true}
 use Rattle.catalogue.specs.Text.{decimal, number}
 use Rattle.text.specs.Puts.{put_at}
 use Rattle.text.proofs.Decimals.{length_number}
-use Rattle.text.proofs.Magnitudes.{read}
 use Rattle.text.proofs.Runs.{put_then, end_then}
+
+-- what the code's casts read of a number
+abbrev pub read : ℤ → ℤ
+read z = to_z w32 (of_z w32 z)
 
 negative : (z : ℤ) → lt_z z (pos 0) ≡ true → number z ≡ 45 ∷ decimal (nat_abs z)
 unfolding number

@@ -1,4 +1,2 @@
--- Laws of checks, of places and of the queue.
+-- Laws of checks.
 pub mod CheckLaws
-pub mod PlaceLaws
-pub mod QueueLaws

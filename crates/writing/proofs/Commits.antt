@@ -1,6 +1,6 @@
 -- One law for each function that writes, and for each kind of write, in the shape of the facts that the code has.
 -- After the stores and the callees, memory is that of the catalogue which the contract names.
-use Prim.Native.Nat.{ℕ, ◌+◌, ◌-◌, ◌<◌, ◌≤◌}
+use Prim.Native.Nat.{ℕ, ◌+◌, ◌-◌, ◌<◌}
 use mathlib.Core.List.{List}
 use mathlib.Core.Path.{◌≡◌, ◌∙◌, ap, subst}
 use lib.IntN.{ℤ}
@@ -48,22 +48,9 @@ module _ (key key' : ℤ) (same : key' ≡ key) where
     new_edge_held target p tag held = edge_linked (with_edge C n key target next) keys words words' (rw same at held) p (link n tag)
 
 module _ (write : Write) where
-  -- what a write of each kind asks
-  pub new_vertex_asks : (n : ℕ) (key : ℤ) (next p : ℕ) → Writable write → write ≡ NewVertex n key next p → 2 ≤ n
-  new_vertex_asks n key next p w e = subst Writable e w
-
-  pub edge_link_asks : (n next tag : ℕ) → Writable write → write ≡ EdgeLink n next tag → n < 2048
+  -- what a link of an edge asks
+  edge_link_asks : (n next tag : ℕ) → Writable write → write ≡ EdgeLink n next tag → n < 2048
   edge_link_asks n next tag w e = subst Writable e w
-
-  pub new_first_asks : (n : ℕ) (key : ℤ) (target next u : ℕ) → Writable write → write ≡ NewFirst n key target next u → n < 2048
-  new_first_asks n key target next u w e = subst Writable e w
-
-  module _ (n : ℕ) (key : ℤ) (target next p tag : ℕ) (w : Writable write) (e : write ≡ NewEdge n key target next p tag) where
-    pub new_edge_asks : n < 2048
-    new_edge_asks = (subst Writable e w).0
-
-    pub new_edge_asks_p : p < 2048
-    new_edge_asks_p = (subst Writable e w).1
 
   -- the memory after it: a new node, as its function says
   module _ (C : Catalogue) (keys : List ℤ) (words : List ℕ) (key key' : ℤ) (n next : ℕ) where
@@ -104,8 +91,6 @@ module _ (write : Write) where
       unfolding commit
       edge_link_committed tag e w s =
           rw e (edge_linked (catalogue_in keys words) keys words words' (view_held keys words hk hw) n (link next tag) (edge_link_asks n next tag w e) s)
-
-pub ruleset asks = (new_vertex_asks, edge_link_asks, new_first_asks, new_edge_asks, new_edge_asks_p)
 
 -- the bits of a key, and the law of each kind
 pub ruleset kinds = (
