@@ -10,44 +10,37 @@ use asking::print::{print_line, print_listing, print_tally};
 use clearing::fresh::fresh;
 use many_edges::on_edges;
 use memory::{KEYS_SIZE, WORDS_SIZE};
-use std::io;
 use sweep::sweep::sweep;
 use workers::table::idle_table;
 
 // Every vertex and every edge is asked for; the tally says what is there already, or has no room.
-fn fill(rt: &impl Print, keys: &mut [i32], words: &mut [u32]) -> io::Result<()> {
-    print_tally(rt, on_vertices(keys, words, 1, 0, 1))?;
-    print_tally(rt, on_edges(keys, words, 4, 1))?;
-    print_listing(rt, keys, words)
+fn fill(keys: &mut [i32], words: &mut [u32]) {
+    print_tally(on_vertices(keys, words, 1, 0, 1));
+    print_tally(on_edges(keys, words, 4, 1));
+    print_listing(keys, words);
 }
 
 // Some vertices and some edges; what is removed keeps its place, MARKED.
-fn thin_out(rt: &impl Print, keys: &mut [i32], words: &mut [u32]) -> io::Result<()> {
-    print_tally(rt, on_vertices(keys, words, 2, 5, 10))?;
-    print_tally(rt, on_edges(keys, words, 5, 8))
+fn thin_out(keys: &mut [i32], words: &mut [u32]) {
+    print_tally(on_vertices(keys, words, 2, 5, 10));
+    print_tally(on_edges(keys, words, 5, 8));
 }
 
-fn sweep_and_list(
-    rt: &impl Print,
-    keys: &[i32],
-    words: &[u32],
-    new_keys: &mut [i32],
-    new_words: &mut [u32],
-) -> io::Result<()> {
+fn sweep_and_list(keys: &[i32], words: &[u32], new_keys: &mut [i32], new_words: &mut [u32]) {
     let made = sweep(keys, words, new_keys, new_words, idle_table(1));
-    print_line(rt, made_number(made) as u32)?;
-    print_listing(rt, new_keys, new_words)
+    print_line(made_number(made) as u32);
+    print_listing(new_keys, new_words);
 }
 
-fn main(rt: HostRuntime) -> io::Result<()> {
+fn main() {
     let mut keys = [0; KEYS_SIZE];
     let mut words = [0; WORDS_SIZE];
     let mut new_keys = [0; KEYS_SIZE];
     let mut new_words = [0; WORDS_SIZE];
     fresh(&mut keys, &mut words);
-    fill(&rt, &mut keys, &mut words)?;
-    sweep_and_list(&rt, &keys, &words, &mut new_keys, &mut new_words)?;
-    thin_out(&rt, &mut keys, &mut words)?;
-    sweep_and_list(&rt, &keys, &words, &mut new_keys, &mut new_words)?;
-    fill(&rt, &mut new_keys, &mut new_words)
+    fill(&mut keys, &mut words);
+    sweep_and_list(&keys, &words, &mut new_keys, &mut new_words);
+    thin_out(&mut keys, &mut words);
+    sweep_and_list(&keys, &words, &mut new_keys, &mut new_words);
+    fill(&mut new_keys, &mut new_words);
 }

@@ -6,30 +6,29 @@ use asking::perform::{made_number, perform};
 use asking::print::{print_line, print_tally};
 use clearing::fresh::fresh;
 use memory::{KEYS_SIZE, WORDS_SIZE};
-use std::io;
 use sweep::sweep::sweep;
 use workers::table::idle_table;
 
-fn ask(rt: &impl Print, keys: &mut [i32], words: &mut [u32], code: u32, k: i32) -> io::Result<()> {
+fn ask(keys: &mut [i32], words: &mut [u32], code: u32, k: i32) {
     let performed = perform(keys, words, code, k, 0);
-    print_line(rt, performed.number as u32)
+    print_line(performed.number as u32);
 }
 
-fn main(rt: HostRuntime) -> io::Result<()> {
+fn main() {
     let mut keys = [0; KEYS_SIZE];
     let mut words = [0; WORDS_SIZE];
     fresh(&mut keys, &mut words);
-    print_tally(&rt, on_vertices(&mut keys, &mut words, 1, 0, 1))?;
+    print_tally(on_vertices(&mut keys, &mut words, 1, 0, 1));
     // one more than fit; then one that is there
-    ask(&rt, &mut keys, &mut words, 1, 254)?;
-    ask(&rt, &mut keys, &mut words, 1, 0)?;
+    ask(&mut keys, &mut words, 1, 254);
+    ask(&mut keys, &mut words, 1, 0);
     // a removed vertex keeps its node
-    ask(&rt, &mut keys, &mut words, 2, 0)?;
-    ask(&rt, &mut keys, &mut words, 1, 254)?;
+    ask(&mut keys, &mut words, 2, 0);
+    ask(&mut keys, &mut words, 1, 254);
     // a sweep does not keep it
     let mut new_keys = [0; KEYS_SIZE];
     let mut new_words = [0; WORDS_SIZE];
     let made = sweep(&keys, &words, &mut new_keys, &mut new_words, idle_table(1));
-    print_line(&rt, made_number(made) as u32)?;
-    ask(&rt, &mut new_keys, &mut new_words, 1, 254)
+    print_line(made_number(made) as u32);
+    ask(&mut new_keys, &mut new_words, 1, 254);
 }
