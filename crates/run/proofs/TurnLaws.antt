@@ -50,7 +50,7 @@ module _ (text : List ℕ) (m : Memory) (s : State) (w : ℕ) where
         (ap (λ (t : Table). record { table = t; at = set s.at w next; left = set s.left w (get_or s.left w 0 - 1); replies = s.replies; end = s.end })
         (ap (λ (o : Outcome). o.table) g))
 
-pub ruleset taking = (none_left, bad_line, rules)
+pub ruleset taking = (none_left, bad_line, taken_line)
 
 -- ---- the answer of a step
 

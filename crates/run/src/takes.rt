@@ -7,6 +7,7 @@ use crate::states::State;
 use calls::take_up::take_up;
 use script::requests::{Line, read_request};
 
+#[tactic(auto, using(crate::proofs::TurnLaws::taking))]
 pub fn take_next(text: &[u8], keys: &[i32], words: &[u32], s: State, worker: u32) -> State
     requires { worker < 8 }
     ensures { result ≡ taken_next text.now (memory_of keys.now words.now) s worker }
