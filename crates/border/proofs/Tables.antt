@@ -3,19 +3,15 @@ use Prim.Native.Nat.{ℕ, zero, suc}
 use mathlib.Core.List.{List, [], ◌∷◌, map}
 use mathlib.Core.Path.{◌≡◌, refl, sym, ◌∙◌, ap}
 use native.Mathlib.Omega.{arith}
-use lib.ListN.{length, length-map, get_or}
-use mir.Val.{Val}
+use lib.ListN.{length, get_or}
 use prog.Memory.{size}
-use denote.Laws.{Is}
 use denote.Memory.{lone}
-use denote.Struct.Laws as LL
 use Rattle.catalogue.specs.declared.workers.Worker.{Worker}
 use Rattle.catalogue.specs.declared.workers.Table.{Table}
 use Rattle.border.specs.Kept.{worker_in, table_in, record_at, empty, table_size}
 use Rattle.border.specs.declared.kept.Kept.{Kept}
 use Rattle.border.specs.declared.kept.Record.{Record}
 use Rattle.border.specs.contracts.kept.Kept as K
-use Rattle.border.proofs.kept.Kept.TheLaws as K'
 
 -- the stated size is that of the table's layout
 pub table_sized : table_size ≡ size (lone (K.the_row).mir)

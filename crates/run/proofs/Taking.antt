@@ -12,7 +12,6 @@ use Rattle.catalogue.specs.Calls.{take_up}
 use Rattle.catalogue.specs.Catalogue.{Catalogue}
 use Rattle.catalogue.specs.Lent.{Memory, memory_of, lay, LentCall, after_call, lent_take_up}
 use Rattle.catalogue.specs.Run.{Running, takes_up}
-use Rattle.catalogue.specs.Text.{line}
 use Rattle.catalogue.specs.Workers.{busy}
 use Rattle.catalogue.specs.declared.workers.Request.{Request}
 use Rattle.catalogue.specs.declared.workers.Table.{Table}

@@ -14,7 +14,6 @@ use Rattle.catalogue.specs.declared.answers.Answer.{Answer}
 use Rattle.catalogue.specs.declared.answers.Answer.TheVariants.{Going, Reply, Refused}
 use Rattle.catalogue.specs.declared.workers.Table.{Table}
 use Rattle.memory.specs.Memories.{Hold}
-use Rattle.script.specs.declared.requests.Line.TheVariants as line
 use Rattle.text.specs.Puts.{put_at}
 use Rattle.run.specs.Stands.{Stands, reply_text}
 use Rattle.run.specs.Turns.{reply_bytes, moved, told, lines_told}

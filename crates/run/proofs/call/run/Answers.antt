@@ -1,6 +1,6 @@
 -- The checks are those of the definition, in its order.
 use Rattle.memory.proofs.Sizes.{size_flag, sized_flag}
-use Rattle.run.proofs.Results.{bad_answer, good_answer, left_unsized, left_short, left_bad}
+use Rattle.run.proofs.Results.{bad_answer, left_unsized, left_short, left_bad}
 use Rattle.std.proofs.Common.{rules}
 use Rattle.run.proofs.call.run.Goals as goal
 
