@@ -1,9 +1,5 @@
-use Rattle.digits.proofs.Readings.{Reading, reading_within, readings}
-use mathlib.Core.Path.{◌≡◌}
-use Prim.Native.Nat.{◌-◌}
+use Rattle.digits.proofs.Readings.{reading_within, readings}
 use native.Mathlib.Omega.{arith}
-use lib.ListN.{length}
-use Rattle.digits.specs.Digits.{digit_at}
 use Rattle.std.proofs.Common.{rules}
 use Rattle.digits.proofs.numbers.read_digits.Goals as goal
 

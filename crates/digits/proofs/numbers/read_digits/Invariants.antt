@@ -1,7 +1,6 @@
-use Rattle.digits.proofs.Readings.{Reading, reading_within, readings}
+use Rattle.digits.proofs.Readings.{Reading}
 use mathlib.Core.Path.{◌≡◌}
 use Prim.Native.Nat.{◌-◌}
-use native.Mathlib.Omega.{arith}
 use lib.ListN.{length}
 use Rattle.digits.specs.Digits.{digit_at}
 use Rattle.digits.proofs.numbers.read_digits.Given as goal
