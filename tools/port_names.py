@@ -30,6 +30,10 @@ FACTS = [
     ("row/specs/Lists/Edges.antt", "mine_of", "MineOf"),
 ]
 
+# Words that had a capital in them, as the kit's `ltZ` is `lt_z` and its `getD` is `get_or` today.
+WORDS = {"eqZ": "eq_z", "get_d_of": "get_or_of", "get_d_set": "get_or_set", "get_d_front": "get_or_front"}
+CAPITALS = [("eqZ_", "eq_z_"), ("ltZ_", "lt_z_"), ("getD_", "get_or_"), ("addE_", "add_e_"), ("addV_", "add_v_"), ("remE_", "rem_e_"), ("remV_", "rem_v_"), ("conE_", "con_e_"), ("conV_", "con_v_")]
+
 
 def files(*ends):
     for folder, dirs, names in os.walk("crates"):
@@ -101,6 +105,21 @@ def turn_edit(line, names):
     return re.sub(r"(?<=[\w')]) (\.\w+)(?=[\s)×]|$)", r"\1", line)
 
 
+def small(match):
+    word = match[0]
+    if word in WORDS:
+        return WORDS[word]
+    for begin, now in CAPITALS:
+        if word.startswith(begin):
+            return now + word[len(begin):]
+    return word
+
+
+def turn_words(paths):
+    for path in paths:
+        write(path, TOKEN.sub(small, read(path)))
+
+
 def main():
     names = declared()
     for path in files(".antt", ".rt"):
@@ -121,6 +140,7 @@ def main():
                 old = {t for t in TOKEN.findall(line[5:]) if "-" in t and spelled(t) in now}
                 lines[i] = line[:5] + turn_edit(line[5:], old)
         write(path, "\n".join(lines))
+    turn_words([*files(".antt", ".rt"), *edits])
 
 
 if __name__ == "__main__":

@@ -1,6 +1,6 @@
 -- Document 01, "Numbers": workers, pools, keys, links and tags.
 use Rattle.std.specs.Prelude.{ℕ, ◌+◌, ◌*◌, ◌/◌, ◌%◌, Bool, true, ℤ, pos, negsuc, ltb, leb, eqb}
-use Rattle.catalogue.specs.Tests.{pick, eqZ}
+use Rattle.catalogue.specs.Tests.{pick, eq_z}
 use Rattle.catalogue.specs.declared.links.Room.{Room}
 use Rattle.catalogue.specs.declared.links.Room.TheVariants.{Next, Full, Torn}
 
@@ -39,7 +39,7 @@ abbrev pub greatest : ℤ
 greatest = pos 2147483647
 
 unfoldable pub reserved : ℤ → Bool
-reserved k = pick (eqZ k least) true (eqZ k greatest)
+reserved k = pick (eq_z k least) true (eq_z k greatest)
 
 -- Second paragraph: the four tags.
 abbrev pub plain : ℕ

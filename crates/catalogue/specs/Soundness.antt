@@ -1,7 +1,7 @@
 -- Document 01, "Sweep and listing", first paragraph: a sound catalogue.
 use Rattle.std.specs.Prelude.{ℕ, Bool, true, false, ◌∷◌, length, eqb, leb}
 use Rattle.std.specs.Int.Signed.{lt_z}
-use Rattle.catalogue.specs.Tests.{pick, eqZ, every, member}
+use Rattle.catalogue.specs.Tests.{pick, eq_z, every, member}
 use Rattle.catalogue.specs.Numbers.{head, transit, most_edges}
 use Rattle.catalogue.specs.Catalogue.{Catalogue, vertex_key, vertex_link, first_link, edge_key, edge_link, edge_target, at_vertex, at_edge, at_target, at_mark}
 use Rattle.catalogue.specs.Live.{vertices, edges_of, unmarked, live_vertices, live_edges}
@@ -21,7 +21,7 @@ vertex_sound C x = at_vertex (vertex_link C x) false (λ next tag. lt_z (vertex_
 -- The target of an edge has the edge's key, and has its mark or stands on the vertex walk.
 abbrev pub target_sound : Catalogue → ℕ → ℕ → Bool
 target_sound C e y =
-    pick (eqZ (vertex_key C y) (edge_key C e)) (at_mark (vertex_link C y) false true (member y (vertices C))) false
+    pick (eq_z (vertex_key C y) (edge_key C e)) (at_mark (vertex_link C y) false true (member y (vertices C))) false
 
 -- An edge node in the list of a live vertex: a whole link, its tag, a next of greater key, and its target.
 abbrev pub edge_sound : Asks → Catalogue → ℕ → Bool

@@ -67,12 +67,12 @@ elink_of es e = pick (leb 1 e) (pick (leb e (length es)) (link (next_swept_edge 
 unfoldable pub held : List ℤ → List SweptEdge → Catalogue
 held keys es = record {
   counts = record { vertices = length keys; edges = length es };
-  vertices = record { key = get_d_of (least ∷ pos 0 ∷ keys); link = vlink_of (length keys); first = λ i. link (first_of i es 1) plain };
-  edges = record { key = get_d_of (pos 0 ∷ map (λ d. d.key) es); target = λ e. get_or (0 ∷ map (λ d. d.target) es) e 0; link = elink_of es };
+  vertices = record { key = get_or_of (least ∷ pos 0 ∷ keys); link = vlink_of (length keys); first = λ i. link (first_of i es 1) plain };
+  edges = record { key = get_or_of (pos 0 ∷ map (λ d. d.key) es); target = λ e. get_or (0 ∷ map (λ d. d.target) es) e 0; link = elink_of es };
 }
   where
-    get_d_of : List ℤ → ℕ → ℤ
-    get_d_of keys i = get_or keys i (pos 0)
+    get_or_of : List ℤ → ℕ → ℤ
+    get_or_of keys i = get_or keys i (pos 0)
 
 -- The second catalogue: it holds the live vertices and edges.
 abbrev pub swept : Catalogue → Catalogue

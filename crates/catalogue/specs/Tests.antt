@@ -12,11 +12,11 @@ abbrev pub one_to : ℕ → ℕ → Bool
 one_to most n = pick (leb 1 n) (leb n most) false
 
 -- two signed numbers are equal
-unfoldable pub eqZ : ℤ → ℤ → Bool
-eqZ (pos a) (pos b) = eqb a b
-eqZ (pos a) (negsuc b) = false
-eqZ (negsuc a) (pos b) = false
-eqZ (negsuc a) (negsuc b) = eqb a b
+unfoldable pub eq_z : ℤ → ℤ → Bool
+eq_z (pos a) (pos b) = eqb a b
+eq_z (pos a) (negsuc b) = false
+eq_z (negsuc a) (pos b) = false
+eq_z (negsuc a) (negsuc b) = eqb a b
 
 -- a function with another value at one number
 unfoldable pub upd : {A : Type 0} → (ℕ → A) → ℕ → A → ℕ → A

@@ -25,7 +25,7 @@ use Rattle.host.specs.Promised.{MakesTable, Sweeps}
 pub kept_made : (count : ℕ) (r : Record) (w : Worker) → w ≡ idle → r ≡ record_of w → ◌≡◌ {A = Kept} (record { count = count; records = replicate 8 r }) (idle_kept count)
 kept_made count r w e f = ap (λ (r : Record). record { count = count; records = replicate 8 r }) (f ∙ ap record_of e)
 
-pub ruleset MakesKept = (refl, kept_made)
+pub ruleset makes_kept = (refl, kept_made)
 
 -- it stands for a table of idle workers
 idle_in : (count : ℕ) → table_in (idle_kept count) ≡ idle_table count

@@ -9,7 +9,7 @@ use mir.Syntax.{w32}
 use mir.Val.{SFits, of_z, to_z}
 use lib.IntN.{ℤ}
 use lib.Signed.{lt_z}
-use Rattle.catalogue.specs.Tests.{pick, eqZ}
+use Rattle.catalogue.specs.Tests.{pick, eq_z}
 use Rattle.catalogue.specs.Catalogue.{at_vertex, at_edge, at_target}
 use Rattle.catalogue.specs.Steps.Both.{at_both}
 use Rattle.catalogue.specs.declared.links.VertexLink.{VertexLink}
@@ -20,7 +20,7 @@ use Rattle.catalogue.specs.declared.links.Target.{Target}
 use Rattle.catalogue.specs.declared.links.Target.TheVariants as target
 use Rattle.catalogue.specs.declared.steps.BothSeen.{BothSeen}
 use Rattle.catalogue.specs.declared.steps.BothSeen.TheVariants as both
-use Rattle.laws.proofs.Rules.{tests, eqZ_true, eqZ_false, ltZ_is}
+use Rattle.laws.proofs.Rules.{tests, eq_z_true, eq_z_false, lt_z_is}
 
 module _ {A : Type 0} (x : A) where
   -- a test
@@ -60,14 +60,14 @@ module _ {A : Type 0} (x : A) where
   both_standing l r torn dead standing e q h = rw (sym e ∙ q) h
 
 -- a test of a key that was read
-pub ltZ_read : (t : Bool) (r a b : ℤ) → r ≡ a → SFits w32 r → SFits w32 b → lt_z (to_z w32 (of_z w32 r)) (to_z w32 (of_z w32 b)) ≡ t → lt_z a b ≡ t
-ltZ_read t r a b e hr hb h = rw (← e) (ltZ_is t r b hr hb h)
+pub lt_z_read : (t : Bool) (r a b : ℤ) → r ≡ a → SFits w32 r → SFits w32 b → lt_z (to_z w32 (of_z w32 r)) (to_z w32 (of_z w32 b)) ≡ t → lt_z a b ≡ t
+lt_z_read t r a b e hr hb h = rw (← e) (lt_z_is t r b hr hb h)
 
-pub eqZ_read_true : (r a b : ℤ) → r ≡ a → SFits w32 r → SFits w32 b → of_z w32 r ≡ of_z w32 b → eqZ a b ≡ true
-eqZ_read_true r a b e hr hb h = rw (← e) (eqZ_true r b hr hb h)
+pub eq_z_read_true : (r a b : ℤ) → r ≡ a → SFits w32 r → SFits w32 b → of_z w32 r ≡ of_z w32 b → eq_z a b ≡ true
+eq_z_read_true r a b e hr hb h = rw (← e) (eq_z_true r b hr hb h)
 
-pub eqZ_read_false : (r a b : ℤ) → r ≡ a → (of_z w32 r ≡ of_z w32 b → ⊥) → eqZ a b ≡ false
-eqZ_read_false r a b e h = rw (← e) (eqZ_false r b h)
+pub eq_z_read_false : (r a b : ℤ) → r ≡ a → (of_z w32 r ≡ of_z w32 b → ⊥) → eq_z a b ≡ false
+eq_z_read_false r a b e h = rw (← e) (eq_z_false r b h)
 
 -- what a test says, by the flag that a call of it answered
 pub flag : (a r t : Bool) → r ≡ a → r ≡ t → a ≡ t
@@ -90,8 +90,8 @@ pub ruleset ways = (
   both_torn,
   both_dead,
   both_standing,
-  ltZ_read,
-  eqZ_read_true,
-  eqZ_read_false,
+  lt_z_read,
+  eq_z_read_true,
+  eq_z_read_false,
   tests,
 )

@@ -4,7 +4,7 @@ use mathlib.Core.List.{◌∷◌}
 use mathlib.Core.Path.{◌≡◌, refl, ap, ◌∙◌}
 use native.Mathlib.Omega.{arith}
 use lib.Signed.{lt_z}
-use Rattle.catalogue.specs.Tests.{eqZ, every}
+use Rattle.catalogue.specs.Tests.{eq_z, every}
 use Rattle.catalogue.specs.Numbers.{head}
 use Rattle.catalogue.specs.Catalogue.{Catalogue, vertex_key, edge_key}
 use Rattle.catalogue.specs.Live.{vertices, edges_of, live_vertices}
@@ -25,7 +25,7 @@ module _ {C D : Catalogue} (a : Agree C D) where
   target_sound_twin : (e y : ℕ) → InPool e → Near y → Same (target_sound C e y) (target_sound D e y)
   target_sound_twin e y b h =
       rw (vertex_key_same a y h, edge_key_same a e b, vertices_same a)
-      (pick_twin (eqZ (vertex_key D y) (edge_key D e)) (λ q. mark_read a y h (twin _ tt) (twin _ tt) (twin _ tt)) (λ q. twin _ tt))
+      (pick_twin (eq_z (vertex_key D y) (edge_key D e)) (λ q. mark_read a y h (twin _ tt) (twin _ tt) (twin _ tt)) (λ q. twin _ tt))
 
   module _ (asks : Asks) where
     edge_sound_twin : (e : ℕ) → Same (edge_sound asks C e) (edge_sound asks D e)

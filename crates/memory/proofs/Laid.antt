@@ -16,7 +16,7 @@ use Rattle.catalogue.specs.Lent.{Memory, keys_size, words_size, vertex_count, ed
 use Rattle.memory.specs.Memories.{Hold}
 use Rattle.memory.proofs.Sizes.{sized_is}
 use Rattle.laws.proofs.Gathers.{length_table}
-use Rattle.memory.proofs.Tables.{getD_table, get_d_front, getD_behind}
+use Rattle.memory.proofs.Tables.{get_or_table, get_or_front, get_or_behind}
 
 -- where the tables of the words begin, after the two counts
 pub vlink_place : (n : ℕ) → 2 + n ≡ suc (suc n)
@@ -43,27 +43,27 @@ module _ (C : Catalogue) where
   module _ (n : ℕ) where
     pub laid_vkey : n < 256 → vkeys (lay C).keys n ≡ C.vertices.key n
     unfolding lay
-    laid_vkey h = simp get_d_front
+    laid_vkey h = simp get_or_front
 
     pub laid_ekey : n < 2048 → ekeys (lay C).keys n ≡ C.edges.key n
     unfolding lay
-    laid_ekey h = simp (getD_behind, getD_table)
+    laid_ekey h = simp (get_or_behind, get_or_table)
 
     pub laid_vlink : n < 256 → vlinks (lay C).words n ≡ C.vertices.link n
     unfolding lay
-    laid_vlink h = simp (vlink_place, get_d_front)
+    laid_vlink h = simp (vlink_place, get_or_front)
 
     pub laid_first : n < 256 → firsts (lay C).words n ≡ C.vertices.first n
     unfolding lay
-    laid_first h = simp (first_place, getD_behind, get_d_front)
+    laid_first h = simp (first_place, get_or_behind, get_or_front)
 
     pub laid_target : n < 2048 → targets (lay C).words n ≡ C.edges.target n
     unfolding lay
-    laid_target h = simp (target_place, getD_behind, get_d_front)
+    laid_target h = simp (target_place, get_or_behind, get_or_front)
 
     pub laid_elink : n < 2048 → elinks (lay C).words n ≡ C.edges.link n
     unfolding lay
-    laid_elink h = simp (elink_place, getD_behind, getD_table)
+    laid_elink h = simp (elink_place, get_or_behind, get_or_table)
 
 -- What holds below a place and at each of some numbers from there on holds below their end.
 below_both : (P : ℕ → Type 0) (o r : ℕ) → ((i : ℕ) → i < o → P i) → ((n : ℕ) → n < r → P (o + n)) → (i : ℕ) → i < o + r → P i

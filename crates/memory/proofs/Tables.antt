@@ -20,9 +20,9 @@ module _ {A : Type 0} where
   table_at f from (suc n) (suc i) d h = table_at f (suc from) n i d (omega arith) ∙ ap f (omega arith)
 
   -- a store, as another function of the index
-  pub get_d_set : (l : List A) (i j : ℕ) (v d : A) → i < length l → get_or (set l i v) j d ≡ upd (λ k. get_or l k d) i v j
+  pub get_or_set : (l : List A) (i j : ℕ) (v d : A) → i < length l → get_or (set l i v) j d ≡ upd (λ k. get_or l k d) i v j
   unfolding upd
-  get_d_set l i j v d h = by (eqb j i) refl
+  get_or_set l i j v d h = by (eqb j i) refl
     where
       by : (t : Bool) → eqb j i ≡ t → get_or (set l i v) j d ≡ upd (λ k. get_or l k d) i v j
       by true e = rw (e, eqb-true j i e) (get_or-set_same l i v d h)
@@ -33,8 +33,8 @@ module _ {A : Type 0} where
   set_append_add (x ∷ xs) ys i v = rw (suc-add (length xs) i) (ap (λ r. x ∷ r) (set_append_add xs ys i v))
 
   -- the tables of the lent memory begin at number 0
-  pub getD_table : (f : ℕ → A) (n i : ℕ) (d : A) → i < n → get_or (table_from f 0 n) i d ≡ f i
-  getD_table f n i d h = table_at f 0 n i d h ∙ ap f (zero-add i)
+  pub get_or_table : (f : ℕ → A) (n i : ℕ) (d : A) → i < n → get_or (table_from f 0 n) i d ≡ f i
+  get_or_table f n i d h = table_at f 0 n i d h ∙ ap f (zero-add i)
 
   pub set_table : (f : ℕ → A) (n i : ℕ) (v : A) → i < n → set (table_from f 0 n) i v ≡ table_from (upd f i v) 0 n
   unfolding upd
@@ -44,14 +44,14 @@ module _ {A : Type 0} where
     where
       stored : (j : ℕ) → j < n → get_or (set (table_from f 0 n) i v) j v ≡ get_or (table_from (upd f i v) 0 n) j v
       stored j b =
-          get_d_set (table_from f 0 n) i j v v (rw length_table h) ∙ ap (pick (eqb j i) v) (getD_table f n j v b) ∙ sym (getD_table (upd f i v) n j v b)
+          get_or_set (table_from f 0 n) i j v v (rw length_table h) ∙ ap (pick (eqb j i) v) (get_or_table f n j v b) ∙ sym (get_or_table (upd f i v) n j v b)
 
   module _ (f : ℕ → A) (n i : ℕ) (r : List A) where
-    pub get_d_front : (d : A) → i < n → get_or (table_from f 0 n ++ r) i d ≡ f i
-    get_d_front d h = get_or-append (table_from f 0 n) r d i (rw length_table h) ∙ getD_table f n i d h
+    pub get_or_front : (d : A) → i < n → get_or (table_from f 0 n ++ r) i d ≡ f i
+    get_or_front d h = get_or-append (table_from f 0 n) r d i (rw length_table h) ∙ get_or_table f n i d h
 
-    pub getD_behind : (d : A) → get_or (table_from f 0 n ++ r) (n + i) d ≡ get_or r i d
-    getD_behind d = rw length_table at (get_or-append-add (table_from f 0 n) r i d)
+    pub get_or_behind : (d : A) → get_or (table_from f 0 n ++ r) (n + i) d ≡ get_or r i d
+    get_or_behind d = rw length_table at (get_or-append-add (table_from f 0 n) r i d)
 
     pub set_front : (v : A) → i < n → set (table_from f 0 n ++ r) i v ≡ table_from (upd f i v) 0 n ++ r
     set_front v h = set-append_left (table_from f 0 n) r i v (rw length_table h) ∙ ap (λ t. t ++ r) (set_table f n i v h)

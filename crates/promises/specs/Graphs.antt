@@ -1,6 +1,6 @@
 -- The live graph by keys: which series there are, and which of them is derived from which.
 use Rattle.std.specs.Prelude.{Bool, true, false, List, [], ◌∷◌, ◌≡◌, ℤ}
-use Rattle.catalogue.specs.Tests.{pick, eqZ}
+use Rattle.catalogue.specs.Tests.{pick, eq_z}
 use Rattle.catalogue.specs.Catalogue.{Catalogue}
 use Rattle.catalogue.specs.Live.{live_keys, live_pairs}
 
@@ -17,10 +17,10 @@ among same y [] = false
 among same y (x ∷ l) = pick (same y x) true (among same y l)
 
 abbrev pub same_pair : ℤ × ℤ → ℤ × ℤ → Bool
-same_pair p q = pick (eqZ p.0 q.0) (eqZ p.1 q.1) false
+same_pair p q = pick (eq_z p.0 q.0) (eq_z p.1 q.1) false
 
 abbrev pub live : Catalogue → Graph
-live C = record { series = λ k. among eqZ k (live_keys C); derived = λ k l. among same_pair (k, l) (live_pairs C) }
+live C = record { series = λ k. among eq_z k (live_keys C); derived = λ k l. among same_pair (k, l) (live_pairs C) }
 
 -- from one series to another over derivations, none or more
 pub data Walk (g : Graph) (to : ℤ) : ℤ → Type 0 where

@@ -8,7 +8,7 @@ use native.Mathlib.Omega.{arith}
 use lib.IntN.{pos}
 use lib.ListN.{length, length-map, get_or}
 use lib.Signed.{◌<ℤ◌}
-use Rattle.catalogue.specs.Tests.{eqZ, every, member}
+use Rattle.catalogue.specs.Tests.{eq_z, every, member}
 use Rattle.catalogue.specs.Numbers.{edge_tail, edge_pool}
 use Rattle.catalogue.specs.Catalogue.{Catalogue, vertex_key, vertex_link, first_link, edge_key, edge_link, edge_target, at_target}
 use Rattle.catalogue.specs.Live.{next_edge, first_edge, vertices, edges_of, unmarked, is_added, is_live, live_vertices, live_edges_of, live_edges, live_keys, gather}
@@ -17,7 +17,7 @@ use Rattle.catalogue.specs.Sweep.{SweptEdge, swept_edge, swept_edges, renumbered
 use Rattle.catalogue.specs.declared.links.Target.{Target}
 use Rattle.catalogue.specs.declared.links.Target.TheVariants as target
 use Rattle.laws.proofs.Picks.{clash, both_true}
-use Rattle.laws.proofs.Rules.{eqZ_eq}
+use Rattle.laws.proofs.Rules.{eq_z_eq}
 use Rattle.laws.proofs.Members.{All, all_each, all_any, all_at, all_keep, all_map, every_all, member_keep}
 use Rattle.laws.proofs.Gathers.{gather_map, live_made, all_live}
 use Rattle.laws.proofs.Keys.{Rising, rising_keep}
@@ -38,7 +38,7 @@ Lives C e = (at_target (edge_target C e) false (unmarked C) ≡ true) × (at_tar
 pub live_target : (C : Catalogue) (e y : ℕ) → unmarked C y ≡ true → target_sound C e y ≡ true → member y (live_vertices C) ≡ true
 live_target C e y u t =
     member_keep (unmarked C) y (vertices C)
-    (met (member y (vertices C)) (vertex_link C y) u (both_true (eqZ (vertex_key C y) (edge_key C e)) _ t).1)
+    (met (member y (vertices C)) (vertex_link C y) u (both_true (eq_z (vertex_key C y) (edge_key C e)) _ t).1)
     u
 
 -- a live vertex has its key at its new number
@@ -56,7 +56,7 @@ module _ (C : Catalogue) (x e : ℕ) where
       record {
         low = place_from y (live_vertices C) 2;
         high = omega (arith, place_below y (live_vertices C) 2 m, length-map (live_vertices C) (vertex_key C));
-        keyed = new_place C y m ∙ eqZ_eq (vertex_key C y) (edge_key C e) (both_true (eqZ (vertex_key C y) (edge_key C e)) _ t).0;
+        keyed = new_place C y m ∙ eq_z_eq (vertex_key C y) (edge_key C e) (both_true (eq_z (vertex_key C y) (edge_key C e)) _ t).0;
       }
   aimed_at target.Torn u t = clash (cc)
 

@@ -22,7 +22,7 @@ use Rattle.catalogue.specs.declared.links.VertexLink.TheVariants as vertex
 use Rattle.catalogue.specs.declared.links.EdgeLink.{EdgeLink}
 use Rattle.catalogue.specs.declared.links.EdgeLink.TheVariants as edge
 use Rattle.laws.proofs.Picks.{clash}
-use Rattle.laws.proofs.Rules.{eqZ_refl}
+use Rattle.laws.proofs.Rules.{eq_z_refl}
 use Rattle.laws.proofs.Members.{All, all_each, all_join, all_every, all_at, all_map, all_parts}
 use Rattle.laws.proofs.Keys.{risen}
 use Rattle.laws.proofs.Walks.{Climbs, climbs}
@@ -124,7 +124,7 @@ module _ {keys : List ℤ} {es : List SweptEdge} {share : ℕ → List SweptEdge
     target_holds : (e : ℕ) → Leads keys es e → at_target (edge_target D e) false (target_sound D e) ≡ true
     target_holds e d =
         ap (λ l. at_target l false (target_sound D e)) d.read
-        ∙ rw (d.keyed, eqZ_refl (edge_key D e), vertex_at keys es f.few d.to d.low d.high, vertices_row keys es f.few)
+        ∙ rw (d.keyed, eq_z_refl (edge_key D e), vertex_at keys es f.few d.to d.low d.high, vertices_row keys es f.few)
         (member_row d.to 2 (length keys) d.low d.high)
 
     module _ (asked : Asks) where

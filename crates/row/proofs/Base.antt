@@ -11,7 +11,7 @@ use native.Mathlib.Omega.{arith}
 use Rattle.catalogue.specs.Tests.{upd}
 pub use Rattle.laws.proofs.Picks.{clash}
 pub use Rattle.laws.proofs.Cases.{same?, lt_or, upd_at, upd_other}
-pub use Rattle.laws.proofs.Keys.{<ℤ-trans, rises as ltZ_true}
+pub use Rattle.laws.proofs.Keys.{<ℤ-trans, rises as lt_z_true}
 
 -- ---- function update
 

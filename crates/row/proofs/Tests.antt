@@ -4,27 +4,27 @@ use mathlib.Core.Path.{◌≡◌, refl, sym}
 use mathlib.Core.Logic.{◌⊎◌, inl, inr}
 use lib.IntN.{ℤ}
 use lib.Signed.{◌<ℤ◌, lt_z}
-use Rattle.catalogue.specs.Tests.{eqZ}
-use Rattle.laws.proofs.Rules.{eqZ_refl, eqZ_eq}
+use Rattle.catalogue.specs.Tests.{eq_z}
+use Rattle.laws.proofs.Rules.{eq_z_refl, eq_z_eq}
 use Rattle.laws.proofs.Picks.{clash}
 use Rattle.row.proofs.Base.{Tri, below, equal, above, tri}
 
-pub eqZ_yes : (a b : ℤ) → a ≡ b → eqZ a b ≡ true
-eqZ_yes a b e = rw e (eqZ_refl b)
+pub eq_z_yes : (a b : ℤ) → a ≡ b → eq_z a b ≡ true
+eq_z_yes a b e = rw e (eq_z_refl b)
 
-pub eqZ_no : (a b : ℤ) → (a ≡ b → ⊥) → eqZ a b ≡ false
-eqZ_no a b n = by (eqZ a b) refl
+pub eq_z_no : (a b : ℤ) → (a ≡ b → ⊥) → eq_z a b ≡ false
+eq_z_no a b n = by (eq_z a b) refl
   where
-    by : (t : Bool) → eqZ a b ≡ t → eqZ a b ≡ false
-    by true e = absurd (n (eqZ_eq a b e))
+    by : (t : Bool) → eq_z a b ≡ t → eq_z a b ≡ false
+    by true e = absurd (n (eq_z_eq a b e))
     by false e = e
 
 pub same_key? : (a b : ℤ) → (a ≡ b) ⊎ (a ≡ b → ⊥)
-same_key? a b = by (eqZ a b) refl
+same_key? a b = by (eq_z a b) refl
   where
-    by : (t : Bool) → eqZ a b ≡ t → (a ≡ b) ⊎ (a ≡ b → ⊥)
-    by true e = inl (eqZ_eq a b e)
-    by false e = inr (λ q. clash (cc (eqZ_yes a b q)))
+    by : (t : Bool) → eq_z a b ≡ t → (a ≡ b) ⊎ (a ≡ b → ⊥)
+    by true e = inl (eq_z_eq a b e)
+    by false e = inr (λ q. clash (cc (eq_z_yes a b q)))
 
 pub not_below : (a b : ℤ) → lt_z a b ≡ false → (a ≡ b) ⊎ (b <ℤ a)
 not_below a b e = by (tri a b)

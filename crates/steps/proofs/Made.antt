@@ -8,7 +8,7 @@ use borrow.Author.Tests.{ltb-true, leb-true, leb-false, eqb-false}
 use lib.IntN.{ℤ}
 use lib.Signed.{lt_z}
 use lib.Dec.{eqb, leb, ltb}
-use Rattle.catalogue.specs.Tests.{pick, eqZ}
+use Rattle.catalogue.specs.Tests.{pick, eq_z}
 use Rattle.catalogue.specs.Numbers.{room, head, edge_pool}
 use Rattle.catalogue.specs.Catalogue.{Catalogue, vertex_link, first_link, edge_key, edge_link, edge_target, at_mark}
 use Rattle.catalogue.specs.Workers.{has, request_of, ahead}
@@ -79,7 +79,7 @@ module _ (C : Catalogue) (l : ℤ) (p : Prev) (c : ℕ) (b : Behind p) (h : c < 
   unfolding see_key
   see_key_sees kept next tag =
       pick_both (Sees p c) (lt_z (edge_key C c) l) _ _ (λ e. tt)
-      (λ e. pick_both (Sees p c) (eqZ (edge_key C c) l) _ _ (λ f. (b, h)) (λ f. (b, h)))
+      (λ e. pick_both (Sees p c) (eq_z (edge_key C c) l) _ _ (λ f. (b, h)) (λ f. (b, h)))
 
   see_edge_sees : (kept : ℕ) → Sees p c (see_edge C l c kept)
   unfolding see_edge
@@ -164,7 +164,7 @@ module _ (C : Catalogue) (w : Worker) where
   step_contains_edge_ok ends c =
       pick_both Ok (ltb c 2048) _ _
       (λ e. pick_both Ok (lt_z (edge_key C c) ends.pair.l) _ _ (λ f. edge_both Ok (edge_link C c) _ _ tt (λ next tag g. tt))
-      (λ f. pick_both Ok (eqZ (edge_key C c) ends.pair.l) _ _
+      (λ f. pick_both Ok (eq_z (edge_key C c) ends.pair.l) _ _
       (λ g. edge_both Ok (edge_link C c) _ _ tt
       (λ next tag a. pick_both Ok (eqb tag 3) _ _
       (λ b. target_both Ok (edge_target C c) _ _ tt

@@ -7,14 +7,14 @@ use mir.Syntax.{w8, w32}
 use mir.Val.{Fits, SFits, of_z, to_z}
 use lib.IntN.{ℤ}
 use lib.Signed.{lt_z}
-use Rattle.catalogue.specs.Tests.{pick, eqZ, member}
+use Rattle.catalogue.specs.Tests.{pick, eq_z, member}
 use Rattle.catalogue.specs.Lent.{catalogue_in}
 use Rattle.catalogue.specs.Live.{vertices}
 use Rattle.catalogue.specs.Workers.{has}
 use Rattle.catalogue.specs.Soundness.{sweep, tag_fits}
 use Rattle.survey.proofs.Pools.{edge_to}
 use Rattle.survey.specs.Walks.{asks_of, Ready}
-use Rattle.laws.proofs.Ways.{ways, ltZ_read, eqZ_read_true, eqZ_read_false}
+use Rattle.laws.proofs.Ways.{ways, lt_z_read, eq_z_read_true, eq_z_read_false}
 
 -- a call's answer was tested
 module _ {A : Type 0} (x : A) (t r : Bool) (a b : A) (e : r ≡ t) where
@@ -33,21 +33,21 @@ module _ (r : Bool) (tag : ℕ) (asked : Bool) where
   listing_fits e = rw e refl
 
 -- both keys of a test were read
-pub ltZ_both : (t : Bool) (r a s b : ℤ) → r ≡ a → s ≡ b → SFits w32 r → SFits w32 s → lt_z (to_z w32 (of_z w32 r)) (to_z w32 (of_z w32 s)) ≡ t → lt_z a b ≡ t
-ltZ_both t r a s b e f hr hs h = rw (← f) (ltZ_read t r a s e hr hs h)
+pub lt_z_both : (t : Bool) (r a s b : ℤ) → r ≡ a → s ≡ b → SFits w32 r → SFits w32 s → lt_z (to_z w32 (of_z w32 r)) (to_z w32 (of_z w32 s)) ≡ t → lt_z a b ≡ t
+lt_z_both t r a s b e f hr hs h = rw (← f) (lt_z_read t r a s e hr hs h)
 
 -- the same where the test is the answer
-pub ltZ_says : (t : Bool) (r a s b : ℤ) → r ≡ a → s ≡ b → SFits w32 r → SFits w32 s → lt_z (to_z w32 (of_z w32 r)) (to_z w32 (of_z w32 s)) ≡ t → t ≡ lt_z a b
-ltZ_says t r a s b e f hr hs h = sym (ltZ_both t r a s b e f hr hs h)
+pub lt_z_says : (t : Bool) (r a s b : ℤ) → r ≡ a → s ≡ b → SFits w32 r → SFits w32 s → lt_z (to_z w32 (of_z w32 r)) (to_z w32 (of_z w32 s)) ≡ t → t ≡ lt_z a b
+lt_z_says t r a s b e f hr hs h = sym (lt_z_both t r a s b e f hr hs h)
 
-pub eqZ_both_true : (r a s b : ℤ) → r ≡ a → s ≡ b → SFits w32 r → SFits w32 s → of_z w32 r ≡ of_z w32 s → eqZ a b ≡ true
-eqZ_both_true r a s b e f hr hs h = rw (← f) (eqZ_read_true r a s e hr hs h)
+pub eq_z_both_true : (r a s b : ℤ) → r ≡ a → s ≡ b → SFits w32 r → SFits w32 s → of_z w32 r ≡ of_z w32 s → eq_z a b ≡ true
+eq_z_both_true r a s b e f hr hs h = rw (← f) (eq_z_read_true r a s e hr hs h)
 
-pub eqZ_both_false : (r a s b : ℤ) → r ≡ a → s ≡ b → (of_z w32 r ≡ of_z w32 s → ⊥) → eqZ a b ≡ false
-eqZ_both_false r a s b e f h = rw (← f) (eqZ_read_false r a s e h)
+pub eq_z_both_false : (r a s b : ℤ) → r ≡ a → s ≡ b → (of_z w32 r ≡ of_z w32 s → ⊥) → eq_z a b ≡ false
+eq_z_both_false r a s b e f h = rw (← f) (eq_z_read_false r a s e h)
 
 -- the set of the walk answers for the walk
 pub met_on : (keys : List ℤ) (words met : List ℕ) (y : ℕ) (r : Bool) → r ≡ has met y → Ready keys words met → Fits w8 y → r ≡ member y (vertices (catalogue_in keys words))
 met_on keys words met y r e m h = e ∙ m.on y h.fits
 
-pub ruleset told_ways = (told_true, told_false, met_on, sweep_fits, listing_fits, ltZ_both, ltZ_says, eqZ_both_true, eqZ_both_false, edge_to, ways)
+pub ruleset told_ways = (told_true, told_false, met_on, sweep_fits, listing_fits, lt_z_both, lt_z_says, eq_z_both_true, eq_z_both_false, edge_to, ways)

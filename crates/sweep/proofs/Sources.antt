@@ -13,7 +13,7 @@ use Rattle.catalogue.specs.Numbers.{edge_tail, added, link}
 use Rattle.catalogue.specs.Sweep.{SweptEdge, source_at, next_swept_edge, elink_of}
 use Rattle.laws.proofs.Members.{All, all_at, all_map}
 use Rattle.laws.proofs.Cases.{lt_or, upd_at, upd_other}
-use Rattle.sweep.proofs.Ends.{getD_end}
+use Rattle.sweep.proofs.Ends.{get_or_end}
 
 abbrev source_of : SweptEdge → ℕ
 source_of d = d.source
@@ -36,7 +36,7 @@ pub more_at : {A : Type 0} (f : SweptEdge → A) (v : A) (es : List SweptEdge) (
     → get_or (v ∷ map f (es ++ (d ∷ []))) i v ≡ upd (λ k. get_or (v ∷ map f es) k v) (1 + length es) (f d) i
 more_at f v es d i =
     ap (λ l. get_or (v ∷ l) i v) (map-append f es (d ∷ []))
-    ∙ getD_end (v ∷ map f es) (f d) v (1 + length es) i (let long : length (map f es) ≡ length es = length-map es f in omega arith)
+    ∙ get_or_end (v ∷ map f es) (f d) v (1 + length es) i (let long : length (map f es) ≡ length es = length-map es f in omega arith)
 
 -- the links of the edges, by number
 module _ (es : List SweptEdge) (i : ℕ) where

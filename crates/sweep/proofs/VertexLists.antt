@@ -18,7 +18,7 @@ use Rattle.catalogue.specs.Sweep.{first_of, next_swept, vlink_of, elink_of, held
 use Rattle.laws.proofs.Cases.{same?, lt_or, upd_at, upd_other}
 use Rattle.sweep.specs.Built.{last_vertex, vertex_write, with_vertices}
 use Rattle.memory.proofs.Agrees.{Agree, lay_agree, committed_lay}
-use Rattle.sweep.proofs.Ends.{getD_end}
+use Rattle.sweep.proofs.Ends.{get_or_end}
 
 -- the links of n vertices, by number
 module _ (n i : ℕ) where
@@ -113,7 +113,7 @@ vertex_agrees ks k =
     record {
       vertices = omega (arith, long);
       edges = refl;
-      vkeys = λ i h. sym (getD_end (least ∷ (pos 0 ∷ ks)) k (pos 0) (2 + n) i (omega arith));
+      vkeys = λ i h. sym (get_or_end (least ∷ (pos 0 ∷ ks)) k (pos 0) (2 + n) i (omega arith));
       vlinks = λ i h. new_link n (length (ks ++ (k ∷ []))) long i;
       firsts = λ i h. no_first (2 + n) i;
       ekeys = λ i h. refl;

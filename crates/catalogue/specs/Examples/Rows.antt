@@ -2,7 +2,7 @@
 use Rattle.std.specs.Prelude.{ℕ, zero, suc, List, [], ◌∷◌, map, ℤ, pos, replicate, eqb}
 use Prim.Native.Char.{code}
 use Prim.Native.String.{String, [] as []ˢ, ◌∷◌ as ◌∷ˢ◌}
-use Rattle.catalogue.specs.Tests.{pick, keep, eqZ, upd, every, member}
+use Rattle.catalogue.specs.Tests.{pick, keep, eq_z, upd, every, member}
 use Rattle.catalogue.specs.Answers.{Told}
 use Rattle.catalogue.specs.Choosing.{Choice, takes, steps, start, telling}
 use Rattle.catalogue.specs.Calls.{count_fits, worker_fits, admit, take_up, step}
@@ -71,7 +71,7 @@ turn_about zero = []
 turn_about (suc n) = steps 0 ∷ steps 1 ∷ turn_about n
 
 unfoldable pub found : Example → List ℕ
-unfolding count_fits worker_fits admit take_up step vertex_key_in vertex_link_in first_link_in edge_key_in edge_link_in edge_target_in drill result_text walk gather reserved room shares play run run_text telling next_line split value all_of sum unsnoc read_requests read_lines read_script sound see_both settle_contains_edge step_contains_edge decide_at see_key see_edge see_behind look_at_edge settle_add_edge settle_remove_edge settle_edge restart step_edge look_for step_contains not_found found_u found_v step_find_u step_find_v key_refused vertex_place find_u_place find_v_place edge_place edges_place first_place ends_fit end_trial cross pass_edge step_open take_front step_shut see_trial trial_shut trial_open see_vertex look_at_vertex settle_add_vertex settle_remove_vertex settle_vertex start_again step_vertex position first_of next_swept next_swept_edge held any_busy sweep_into eqZ upd keep every member digits number spaced lines has with_met count met_count commit bytes told_numbers stepped turn_about
+unfolding count_fits worker_fits admit take_up step vertex_key_in vertex_link_in first_link_in edge_key_in edge_link_in edge_target_in drill result_text walk gather reserved room shares play run run_text telling next_line split value all_of sum unsnoc read_requests read_lines read_script sound see_both settle_contains_edge step_contains_edge decide_at see_key see_edge see_behind look_at_edge settle_add_edge settle_remove_edge settle_edge restart step_edge look_for step_contains not_found found_u found_v step_find_u step_find_v key_refused vertex_place find_u_place find_v_place edge_place edges_place first_place ends_fit end_trial cross pass_edge step_open take_front step_shut see_trial trial_shut trial_open see_vertex look_at_vertex settle_add_vertex settle_remove_vertex settle_vertex start_again step_vertex position first_of next_swept next_swept_edge held any_busy sweep_into eq_z upd keep every member digits number spaced lines has with_met count met_count commit bytes told_numbers stepped turn_about
 found (prints script result) = drill (bytes script)
 found (answers workers choices told) = told_numbers (telling (start workers) choices)
 found (meets workers choices told) = map (λ t. t.met) (telling (start workers) choices)

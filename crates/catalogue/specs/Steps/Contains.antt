@@ -1,7 +1,7 @@
 -- Document 01, "The steps", the paragraph on ConE.
 use Rattle.std.specs.Prelude.{ℕ, eqb, ltb}
 use Rattle.std.specs.Int.Signed.{lt_z}
-use Rattle.catalogue.specs.Tests.{pick, eqZ}
+use Rattle.catalogue.specs.Tests.{pick, eq_z}
 use Rattle.catalogue.specs.Numbers.{edge_pool, added}
 use Rattle.catalogue.specs.Catalogue.{Catalogue, edge_key, edge_link, edge_target, at_edge, at_target}
 use Rattle.catalogue.specs.Steps.Both.{see_both, at_both}
@@ -26,5 +26,5 @@ unfoldable pub step_contains_edge : Catalogue → Ends → ℕ → Decision
 step_contains_edge C ends c =
     pick (ltb c edge_pool)
     (pick (lt_z (edge_key C c) ends.pair.l) (at_edge (edge_link C c) Torn (λ next tag. Going (ConE ends next) Nothing))
-    (pick (eqZ (edge_key C c) ends.pair.l) (settle_contains_edge C ends c) (Reply 8 Nothing)))
+    (pick (eq_z (edge_key C c) ends.pair.l) (settle_contains_edge C ends c) (Reply 8 Nothing)))
     Torn

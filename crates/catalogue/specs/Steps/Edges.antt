@@ -1,7 +1,7 @@
 -- Document 01, "The steps", the paragraph on AddE and RemE, with its cases (a) to (f).
 use Rattle.std.specs.Prelude.{ℕ, Bool, true, false, ℤ, eqb, ltb}
 use Rattle.std.specs.Int.Signed.{lt_z}
-use Rattle.catalogue.specs.Tests.{pick, eqZ}
+use Rattle.catalogue.specs.Tests.{pick, eq_z}
 use Rattle.catalogue.specs.Numbers.{edge_pool, edge_tail, most_edges, plain, marked, transit, added, room}
 use Rattle.catalogue.specs.Catalogue.{Catalogue, vertex_link, first_link, edge_key, edge_link, edge_target, at_edge, at_target, at_mark}
 use Rattle.catalogue.specs.Steps.Places.{edge_place}
@@ -33,7 +33,7 @@ landed kept next tag equal = record { kept = kept; next = next; tag = tag; equal
 unfoldable pub see_key : Catalogue → ℤ → ℕ → ℕ → ℕ → ℕ → EdgeSeen
 see_key C l c kept next tag =
     pick (lt_z (edge_key C c) l) (seen.Onward next)
-    (pick (eqZ (edge_key C c) l) (seen.Settles (landed kept next tag true)) (seen.Settles (landed kept next tag false)))
+    (pick (eq_z (edge_key C c) l) (seen.Settles (landed kept next tag true)) (seen.Settles (landed kept next tag false)))
 
 -- (c), (d): c's tag, and for an ADDED edge the mark of its target. The tail has no tag.
 unfoldable pub see_edge : Catalogue → ℤ → ℕ → ℕ → EdgeSeen

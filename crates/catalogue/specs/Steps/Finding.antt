@@ -1,7 +1,7 @@
 -- Document 01, "The steps": the paragraph on ConV, and the one on finding u and v by its looks.
 use Rattle.std.specs.Prelude.{ℕ, ℤ, eqb}
 use Rattle.std.specs.Int.Signed.{lt_z}
-use Rattle.catalogue.specs.Tests.{pick, eqZ}
+use Rattle.catalogue.specs.Tests.{pick, eq_z}
 use Rattle.catalogue.specs.Numbers.{head}
 use Rattle.catalogue.specs.Catalogue.{Catalogue, vertex_key, vertex_link, first_link, at_vertex, at_edge, at_mark}
 use Rattle.catalogue.specs.Steps.Places.{find_u_place, find_v_place, edges_place}
@@ -19,7 +19,7 @@ use Rattle.catalogue.specs.declared.steps.Decision.TheVariants.{Torn, Going, Rep
 unfoldable pub look_for : Catalogue → ℤ → ℕ → VertexFound
 look_for C k c =
     pick (lt_z (vertex_key C c) k) (at_vertex (vertex_link C c) found.Torn (λ next tag. found.Onward next))
-    (pick (eqZ (vertex_key C c) k) (at_mark (vertex_link C c) found.Torn found.Missing found.Found) found.Missing)
+    (pick (eq_z (vertex_key C c) k) (at_mark (vertex_link C c) found.Torn found.Missing found.Found) found.Missing)
 
 abbrev pub decide_contains : ℤ → VertexFound → Decision
 decide_contains k found.Torn = Torn

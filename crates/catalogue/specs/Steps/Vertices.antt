@@ -1,7 +1,7 @@
 -- Document 01, "The steps", the paragraph on AddV and RemV.
 use Rattle.std.specs.Prelude.{ℕ, Bool, true, false, ℤ, eqb}
 use Rattle.std.specs.Int.Signed.{lt_z}
-use Rattle.catalogue.specs.Tests.{pick, eqZ}
+use Rattle.catalogue.specs.Tests.{pick, eq_z}
 use Rattle.catalogue.specs.Numbers.{head, tail, plain, marked, most_vertices, room}
 use Rattle.catalogue.specs.Catalogue.{Catalogue, vertex_key, vertex_link, at_vertex}
 use Rattle.catalogue.specs.Steps.Places.{vertex_place}
@@ -18,7 +18,7 @@ unfoldable pub see_vertex : Catalogue → ℤ → ℕ → VertexSeen
 see_vertex C k c =
     at_vertex (vertex_link C c) seen.Torn (λ next tag.
     pick (eqb tag marked) (seen.Unlinks next)
-    (pick (lt_z (vertex_key C c) k) (seen.Onward next) (pick (eqZ (vertex_key C c) k) (seen.Settles next true) (seen.Settles next false))))
+    (pick (lt_z (vertex_key C c) k) (seen.Onward next) (pick (eq_z (vertex_key C c) k) (seen.Settles next true) (seen.Settles next false))))
 
 -- One look: p's link against (c, PLAIN), then c. A p that is the tail makes the record torn.
 unfoldable pub look_at_vertex : Catalogue → ℤ → ℕ → ℕ → VertexSeen

@@ -5,7 +5,7 @@ use borrow.Author.Tests.{ltb-true}
 use lib.IntN.{ℤ}
 use lib.Signed.{lt_z}
 use lib.Dec.{eqb, ltb}
-use Rattle.catalogue.specs.Tests.{eqZ}
+use Rattle.catalogue.specs.Tests.{eq_z}
 use Rattle.catalogue.specs.Numbers.{edge_pool, edge_tail, most_edges, plain, marked, transit, added, room}
 use Rattle.catalogue.specs.Catalogue.{Catalogue, edge_key}
 use Rattle.catalogue.specs.Steps.Both.{see_both, at_both}
@@ -117,5 +117,5 @@ module _ {C D : Catalogue} (a : Agree C D) where
           pick_twin (ltb c edge_pool)
           (λ b. rw (edge_key_same a c (ltb-true c edge_pool b))
           (pick_twin (lt_z (edge_key D c) ends.pair.l) (λ e. edge_read a c (twin _ tt) (λ next tag b n. twin _ h))
-          (λ e. pick_twin (eqZ (edge_key D c) ends.pair.l) (λ e. settle_contains_twin) (λ e. twin _ tt))))
+          (λ e. pick_twin (eq_z (edge_key D c) ends.pair.l) (λ e. settle_contains_twin) (λ e. twin _ tt))))
           (λ b. twin _ tt)

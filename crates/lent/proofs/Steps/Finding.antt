@@ -3,7 +3,7 @@ use Prim.Native.Nat.{ℕ}
 use native.Mathlib.Omega.{arith}
 use lib.IntN.{ℤ}
 use lib.Signed.{lt_z}
-use Rattle.catalogue.specs.Tests.{eqZ}
+use Rattle.catalogue.specs.Tests.{eq_z}
 use Rattle.catalogue.specs.Numbers.{head}
 use Rattle.catalogue.specs.Catalogue.{Catalogue, vertex_key}
 use Rattle.catalogue.specs.Steps.Finding.{look_for, decide_contains, step_contains, found_u, decide_find_u, step_find_u, found_v, ends_of, decide_find_v, step_find_v}
@@ -34,7 +34,7 @@ module _ {C D : Catalogue} (a : Agree C D) where
   look_twin k c h =
       rw (vertex_key_same a c h)
       (pick_twin (lt_z (vertex_key D c) k) (λ e. vertex_read a c h (twin _ tt) (λ next tag b. twin _ b))
-      (λ e. pick_twin (eqZ (vertex_key D c) k) (λ e. mark_read a c h (twin _ tt) (twin _ tt) (twin _ tt)) (λ e. twin _ tt)))
+      (λ e. pick_twin (eq_z (vertex_key D c) k) (λ e. mark_read a c h (twin _ tt) (twin _ tt) (twin _ tt)) (λ e. twin _ tt)))
 
   pub step_contains_twin : (k : ℤ) (c : ℕ) → Near c → Twin LeadsNear (step_contains C k c) (step_contains D k c)
   unfolding step_contains

@@ -5,7 +5,7 @@ use native.Mathlib.Omega.{arith}
 use lib.IntN.{ℤ}
 use lib.Signed.{lt_z}
 use lib.Dec.{eqb}
-use Rattle.catalogue.specs.Tests.{eqZ}
+use Rattle.catalogue.specs.Tests.{eq_z}
 use Rattle.catalogue.specs.Numbers.{head, tail, plain, marked, most_vertices, room}
 use Rattle.catalogue.specs.Catalogue.{Catalogue, vertex_key}
 use Rattle.catalogue.specs.Steps.Vertices.{see_vertex, look_at_vertex, new_vertex, settle_add_vertex, settle_remove_vertex, settle_vertex, start_again, decide_vertex, step_vertex}
@@ -44,7 +44,7 @@ module _ {C D : Catalogue} (a : Agree C D) where
       (λ e. vertex_read a c g (twin _ tt)
       (λ next tag b. pick_twin (eqb tag marked) (λ e. twin _ b)
       (λ e. pick_twin (lt_z (vertex_key D c) k) (λ e. twin _ b)
-      (λ e. pick_twin (eqZ (vertex_key D c) k) (λ e. twin _ tt) (λ e. twin _ tt)))))
+      (λ e. pick_twin (eq_z (vertex_key D c) k) (λ e. twin _ tt) (λ e. twin _ tt)))))
       (λ e. twin _ tt))
       (λ e. twin _ tt))))
 

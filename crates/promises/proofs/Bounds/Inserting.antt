@@ -7,7 +7,7 @@ use native.Mathlib.Omega.{arith}
 use lib.Dec.{leb}
 use lib.IntN.{ℤ}
 use lib.ListN.{get_or-eq_default}
-use Rattle.catalogue.specs.Tests.{eqZ}
+use Rattle.catalogue.specs.Tests.{eq_z}
 use Rattle.catalogue.specs.Choosing.{Moment, choose, steps}
 use Rattle.catalogue.specs.Workers.{blank, worker_at, busy_at, busy}
 use Rattle.catalogue.specs.declared.workers.Place.TheVariants as place
@@ -51,7 +51,7 @@ module _ (k l : ℤ) (u v : ℕ) where
       by e_passes t = clash (cc t.0)
       by e_marks t = clash (cc t.0)
       by e_onward t = clash (cc t.0)
-      by e_settle t = settled (eqZ (W.e.key c) l) (is_added (W.e.tag c)) (leb 2048 W.e.used) t
+      by e_settle t = settled (eq_z (W.e.key c) l) (is_added (W.e.tag c)) (leb 2048 W.e.used) t
 
 -- what is held after an insertion
 pub record Begun (workers w : ℕ) (m : Moment) : Type 0 where

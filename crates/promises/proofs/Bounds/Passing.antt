@@ -9,7 +9,7 @@ use lib.Signed.{◌<ℤ◌, lt_z, <ℤ_irrefl}
 use Rattle.catalogue.specs.Tests.{pick}
 use Rattle.laws.proofs.Keys.{risen}
 use Rattle.laws.proofs.Rules.{not_true_false}
-use Rattle.row.proofs.Base.{<ℤ-trans, ltZ_true}
+use Rattle.row.proofs.Base.{<ℤ-trans, lt_z_true}
 use Rattle.row.specs.Lists.Edges.{InList}
 use Rattle.row.proofs.Tests.{and_true}
 use Rattle.row.specs.Machine.World.{World}
@@ -17,11 +17,11 @@ use Rattle.promises.proofs.Bounds.Counting.{count_more}
 use Rattle.promises.proofs.Bounds.Far.{below, vertices_passed, among, edges_that, behind}
 
 not_itself : (k : ℤ) → lt_z k k ≡ false
-not_itself k = not_true_false (lt_z k k) (λ e. <ℤ_irrefl (ltZ_true k k e))
+not_itself k = not_true_false (lt_z k k) (λ e. <ℤ_irrefl (lt_z_true k k e))
 
 -- below a key is below every greater one
 further : (a k l : ℤ) → k <ℤ l → lt_z a k ≡ true → lt_z a l ≡ true
-further a k l h e = risen a l (<ℤ-trans (ltZ_true a k e) h)
+further a k l h e = risen a l (<ℤ-trans (lt_z_true a k e) h)
 
 pub both_hold : (a b c : Bool) → (b ≡ true → c ≡ true) → (a && b) ≡ true → (a && c) ≡ true
 both_hold a b c f e = let z = and_true a b e in rw (z.0, f z.1)

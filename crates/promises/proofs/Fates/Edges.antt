@@ -6,7 +6,7 @@ use mathlib.Core.Path.{◌≡◌, refl}
 use borrow.Author.Tests.{eqb-true}
 use lib.Dec.{eqb, ltb}
 use lib.Signed.{lt_z}
-use Rattle.catalogue.specs.Tests.{eqZ}
+use Rattle.catalogue.specs.Tests.{eq_z}
 use Rattle.catalogue.specs.Numbers.{edge_pool, added, transit, most_edges, room}
 use Rattle.catalogue.specs.Catalogue.{Catalogue, first_link, edge_key, edge_link, edge_target}
 use Rattle.catalogue.specs.Steps.Both.{see_both, at_both}
@@ -41,7 +41,7 @@ module _ (C : Catalogue) (a : Ahead) where
       pick_both P (ltb c edge_pool) _ _
       (λ e. pick_both P (lt_z (edge_key C c) ends.pair.l) _ _
       (λ e. edge_both P (edge_link C c) _ _ tt (λ next tag e. refl))
-      (λ e. pick_both P (eqZ (edge_key C c) ends.pair.l) _ _
+      (λ e. pick_both P (eq_z (edge_key C c) ends.pair.l) _ _
       (λ e. edge_both P (edge_link C c) _ _ tt (λ next tag e.
       pick_both P (eqb tag added) _ _
       (λ e. target_both P (edge_target C c) _ _ tt (λ y e. pick_both P (eqb y ends.v) _ _ (λ e. by (see_both C ends.u ends.v)) (λ e. eight)))

@@ -19,7 +19,7 @@ use Rattle.laws.proofs.Members.{All, all_each, all_every, all_gather}
 use Rattle.laws.proofs.Distinct.{Distinct, distinct_keep, distinct_gather, pigeons}
 use Rattle.laws.proofs.Gathers.{live_many}
 use Rattle.laws.proofs.Keys.{risen}
-use Rattle.row.proofs.Tests.{eqZ_yes}
+use Rattle.row.proofs.Tests.{eq_z_yes}
 use Rattle.row.specs.Lists.Store.{Stands}
 use Rattle.row.specs.Lists.Edges.{Tag, marked, transit, added, at, Mine, InList}
 use Rattle.row.specs.Machine.World.{World, Untried}
@@ -47,7 +47,7 @@ module _ (C : Catalogue) (W : World) (s : Shows C W) (g : WGood W) where
       let w = g.ends e l h in
       let a = w.target_low in
       let y = W.e.target e in
-      rw (s.vkeys y w.target_high, s.ekeys e h, eqZ_yes (W.v.key y) (W.e.key e) w.same_key, s.vlinks y w.target_high (λ q. omega arith))
+      rw (s.vkeys y w.target_high, s.ekeys e h, eq_z_yes (W.v.key y) (W.e.key e) w.same_key, s.vlinks y w.target_high (λ q. omega arith))
       (by (W.v.marked y) refl)
     where
       by : (b : Bool) → W.v.marked (W.e.target e) ≡ b → pick (eqb (vertex_tag_of b) 1) true (member (W.e.target e) (vertices C)) ≡ true

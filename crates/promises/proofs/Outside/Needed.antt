@@ -17,7 +17,7 @@ use Rattle.catalogue.specs.declared.workers.Place.{Place}
 use Rattle.catalogue.specs.declared.workers.Place.TheVariants as place
 use Rattle.catalogue.specs.declared.workers.Worker.{Worker}
 use Rattle.laws.proofs.Picks.{clash}
-use Rattle.row.proofs.Tests.{eqZ_yes}
+use Rattle.row.proofs.Tests.{eq_z_yes}
 use Rattle.row.specs.Lists.Store.{Cat, Good}
 use Rattle.row.specs.Lists.Edges.{Prev}
 use Rattle.row.proofs.Graphs.Good.{WGood}
@@ -49,7 +49,7 @@ no_vertex D g k a p c i x y next q sees_again m = clash (cc)
 no_vertex D g k a p c i x y next q (sees_gone j e h n) m = clash (cc)
 no_vertex D g k a p c i x y next q sees_lower m = clash (cc)
 no_vertex D g k a p c i x y next q (sees_equal h n e) m = clash (cc)
-no_vertex D g k a p c i x y next q (sees_above n j e d) (m_settle w u (inl h)) = clash (cc (eqZ_yes (D.key c) k h))
+no_vertex D g k a p c i x y next q (sees_above n j e d) (m_settle w u (inl h)) = clash (cc (eq_z_yes (D.key c) k h))
 no_vertex D g k a p c i x y next q (sees_above n j e d) (m_settle w u (inr h)) = absent D g k a i w h
 
 -- AddE: neither u nor v is marked, and the same holds in the list of u
@@ -66,7 +66,7 @@ module _ (W : World) (g : WGood W) (k l : ℤ) (u v : ℕ) (pair : Pair W k l u 
   no_edge x y at q i (marks o) m = clash (cc)
   no_edge x y at q i (onward o) m = clash (cc)
   no_edge x y at q i (equal lead o e t f n) m = clash (cc)
-  no_edge x y at q i (other lead e r s) (EdgeMeans.m_settle m w n f (inl h)) = clash (cc (eqZ_yes (W.e.key c) l h))
+  no_edge x y at q i (other lead e r s) (EdgeMeans.m_settle m w n f (inl h)) = clash (cc (eq_z_yes (W.e.key c) l h))
   no_edge x y at q i (other lead e r s) (EdgeMeans.m_settle m w n f (inr h)) = record {
     source = live_u W g k l u v pair m;
     goal = live_v W g k l u v pair m;

@@ -21,7 +21,7 @@ use Rattle.catalogue.specs.declared.workers.Worker.{Worker}
 use Rattle.catalogue.specs.declared.writes.Write.{Write}
 use Rattle.catalogue.specs.declared.writes.Write.TheVariants.{Nothing}
 use Rattle.laws.proofs.Picks.{clash}
-use Rattle.laws.proofs.Rules.{eqZ_eq}
+use Rattle.laws.proofs.Rules.{eq_z_eq}
 use Rattle.row.specs.Lists.Edges.{Tag, marked, transit, added, Prev, link}
 use Rattle.row.specs.Machine.World.{World, OnTrial}
 use Rattle.row.specs.Machine.Moves.{ESeen}
@@ -70,7 +70,7 @@ tried W l u p c x y at q g i (marks o) = clash (cc)
 tried W l u p c x y at q g i (onward o) = clash (cc)
 tried W l u p c x y at q g i (equal lead o e t f m) =
     let z : edge_tag_of t ≡ 2 = cc in
-    record { lead = lead; on = record { low = o.0; high = o.1; tried = f ∙ tag_is t z }; key = eqZ_eq (W.e.key c) l e }
+    record { lead = lead; on = record { low = o.0; high = o.1; tried = f ∙ tag_is t z }; key = eq_z_eq (W.e.key c) l e }
 tried W l u p c x y at q g i (other lead e next tag) = clash (cc)
 
 module _ (workers : ℕ) (m : Moment) (X : Conf) (h : Held workers m X) (most : workers ≤ 8) (w : ℕ) (low : w < workers) where

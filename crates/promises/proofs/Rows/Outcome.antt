@@ -9,7 +9,7 @@ use Rattle.catalogue.specs.Tests.{pick}
 use Rattle.catalogue.specs.Live.{live_pairs}
 use Rattle.laws.proofs.Picks.{pick_both, clash}
 use Rattle.promises.specs.Graphs.{Graph, live, Walk}
-use Rattle.promises.specs.Alone.{Ask, AddV, RemV, ConV, AddE, RemE, ConE, with_series, without_series, with_pair, both, Alone, addV_new, addV_there, remV_there, remV_none, conV_there, conV_none, addE_no_end, addE_there, addE_loop, addE_new, remE_no_end, remE_there, remE_none, conE_there, conE_none}
+use Rattle.promises.specs.Alone.{Ask, AddV, RemV, ConV, AddE, RemE, ConE, with_series, without_series, with_pair, both, Alone, add_v_new, add_v_there, rem_v_there, rem_v_none, con_v_there, con_v_none, add_e_no_end, add_e_there, add_e_loop, add_e_new, rem_e_no_end, rem_e_there, rem_e_none, con_e_there, con_e_none}
 use Rattle.promises.specs.Promises.{OneAtMost, Outcome, OneOutcome}
 use Rattle.promises.proofs.Rows.Walks.{Known, walk_known}
 
@@ -44,20 +44,20 @@ module _ (g : Graph) where
   Gives q o = Alone g q o.0 o.1
 
   gives_tried : (k l : ℤ) → both g k l ≡ true → g.derived k l ≡ false → (b : Bool) → Back k l b → Gives (AddE k l) (tried k l b)
-  gives_tried k l e f true w = addE_loop e f w
-  gives_tried k l e f false n = addE_new e f n
+  gives_tried k l e f true w = add_e_loop e f w
+  gives_tried k l e f false n = add_e_new e f n
 
   gives : (b : Bool) (q : Ask) → Knows b q → Gives q (told b q)
-  gives b (AddV k) d = pick_both (Gives (AddV k)) (g.series k) _ _ (λ e. addV_there e) (λ e. addV_new e)
-  gives b (RemV k) d = pick_both (Gives (RemV k)) (g.series k) _ _ (λ e. remV_there e) (λ e. remV_none e)
-  gives b (ConV k) d = pick_both (Gives (ConV k)) (g.series k) _ _ (λ e. conV_there e) (λ e. conV_none e)
+  gives b (AddV k) d = pick_both (Gives (AddV k)) (g.series k) _ _ (λ e. add_v_there e) (λ e. add_v_new e)
+  gives b (RemV k) d = pick_both (Gives (RemV k)) (g.series k) _ _ (λ e. rem_v_there e) (λ e. rem_v_none e)
+  gives b (ConV k) d = pick_both (Gives (ConV k)) (g.series k) _ _ (λ e. con_v_there e) (λ e. con_v_none e)
   gives b (AddE k l) d =
       pick_both (Gives (AddE k l)) (both g k l) _ _
-      (λ e. pick_both (Gives (AddE k l)) (g.derived k l) _ _ (λ f. addE_there e f) (λ f. gives_tried k l e f b (d e f))) (λ e. addE_no_end e)
+      (λ e. pick_both (Gives (AddE k l)) (g.derived k l) _ _ (λ f. add_e_there e f) (λ f. gives_tried k l e f b (d e f))) (λ e. add_e_no_end e)
   gives b (RemE k l) d =
       pick_both (Gives (RemE k l)) (both g k l) _ _
-      (λ e. pick_both (Gives (RemE k l)) (g.derived k l) _ _ (λ f. remE_there e f) (λ f. remE_none e f)) (λ e. remE_no_end e)
-  gives b (ConE k l) d = pick_both (Gives (ConE k l)) (g.derived k l) _ _ (λ e. conE_there e) (λ e. conE_none e)
+      (λ e. pick_both (Gives (RemE k l)) (g.derived k l) _ _ (λ f. rem_e_there e f) (λ f. rem_e_none e f)) (λ e. rem_e_no_end e)
+  gives b (ConE k l) d = pick_both (Gives (ConE k l)) (g.derived k l) _ _ (λ e. con_e_there e) (λ e. con_e_none e)
 
   -- and nothing else
   closes : (k l : ℤ) → Walk g k l → (b : Bool) → Back k l b → tried k l b ≡ (6, g)
@@ -69,39 +69,39 @@ module _ (g : Graph) where
   closes_none k l n false m = refl
 
   only : (b : Bool) (q : Ask) → Knows b q → (n : ℕ) (h : Graph) → Alone g q n h → told b q ≡ (n, h)
-  only b q d n h (addV_new e) = rw e
-  only b q d n h (addV_there e) = rw e
-  only b q d n h (remV_there e) = rw e
-  only b q d n h (remV_none e) = rw e
-  only b q d n h (conV_there e) = rw e
-  only b q d n h (conV_none e) = rw e
-  only b q d n h (addE_no_end e) = rw e
-  only b q d n h (addE_there e f) = rw (e, f)
-  only b q d n h (addE_loop {k} {l} e f w) = rw (e, f) (closes k l w b (d e f))
-  only b q d n h (addE_new {k} {l} e f x) = rw (e, f) (closes_none k l x b (d e f))
-  only b q d n h (remE_no_end e) = rw e
-  only b q d n h (remE_there e f) = rw (e, f)
-  only b q d n h (remE_none e f) = rw (e, f)
-  only b q d n h (conE_there e) = rw e
-  only b q d n h (conE_none e) = rw e
+  only b q d n h (add_v_new e) = rw e
+  only b q d n h (add_v_there e) = rw e
+  only b q d n h (rem_v_there e) = rw e
+  only b q d n h (rem_v_none e) = rw e
+  only b q d n h (con_v_there e) = rw e
+  only b q d n h (con_v_none e) = rw e
+  only b q d n h (add_e_no_end e) = rw e
+  only b q d n h (add_e_there e f) = rw (e, f)
+  only b q d n h (add_e_loop {k} {l} e f w) = rw (e, f) (closes k l w b (d e f))
+  only b q d n h (add_e_new {k} {l} e f x) = rw (e, f) (closes_none k l x b (d e f))
+  only b q d n h (rem_e_no_end e) = rw e
+  only b q d n h (rem_e_there e f) = rw (e, f)
+  only b q d n h (rem_e_none e f) = rw (e, f)
+  only b q d n h (con_e_there e) = rw e
+  only b q d n h (con_e_none e) = rw e
 
   -- with an outcome it is known
   knows : (q : Ask) (n : ℕ) (h : Graph) → Alone g q n h → (b : Bool) × Knows b q
-  knows q n h (addV_new e) = (true, tt)
-  knows q n h (addV_there e) = (true, tt)
-  knows q n h (remV_there e) = (true, tt)
-  knows q n h (remV_none e) = (true, tt)
-  knows q n h (conV_there e) = (true, tt)
-  knows q n h (conV_none e) = (true, tt)
-  knows q n h (addE_no_end e) = (true, λ a c. clash (cc))
-  knows q n h (addE_there e f) = (true, λ a c. clash (cc))
-  knows q n h (addE_loop e f w) = (true, λ a c. w)
-  knows q n h (addE_new e f x) = (false, λ a c. x)
-  knows q n h (remE_no_end e) = (true, tt)
-  knows q n h (remE_there e f) = (true, tt)
-  knows q n h (remE_none e f) = (true, tt)
-  knows q n h (conE_there e) = (true, tt)
-  knows q n h (conE_none e) = (true, tt)
+  knows q n h (add_v_new e) = (true, tt)
+  knows q n h (add_v_there e) = (true, tt)
+  knows q n h (rem_v_there e) = (true, tt)
+  knows q n h (rem_v_none e) = (true, tt)
+  knows q n h (con_v_there e) = (true, tt)
+  knows q n h (con_v_none e) = (true, tt)
+  knows q n h (add_e_no_end e) = (true, λ a c. clash (cc))
+  knows q n h (add_e_there e f) = (true, λ a c. clash (cc))
+  knows q n h (add_e_loop e f w) = (true, λ a c. w)
+  knows q n h (add_e_new e f x) = (false, λ a c. x)
+  knows q n h (rem_e_no_end e) = (true, tt)
+  knows q n h (rem_e_there e f) = (true, tt)
+  knows q n h (rem_e_none e f) = (true, tt)
+  knows q n h (con_e_there e) = (true, tt)
+  knows q n h (con_e_none e) = (true, tt)
 
   -- so it is where walks between any two series are decided
   decides : ((to from : ℤ) → Known (Walk g to from)) → (q : Ask) → (b : Bool) × Knows b q

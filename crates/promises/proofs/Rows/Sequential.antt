@@ -3,8 +3,8 @@ use Prim.Native.Nat.{ℕ}
 use mathlib.Core.Bool.{Bool, true, false, cond, ◌&&◌}
 use mathlib.Core.Path.{◌≡◌, refl, sym, ap, ap₂, ◌∙◌, subst, fun_ext}
 use lib.IntN.{ℤ}
-use Rattle.catalogue.specs.Tests.{pick, eqZ}
-use Rattle.laws.proofs.Rules.{eqZ_refl}
+use Rattle.catalogue.specs.Tests.{pick, eq_z}
+use Rattle.laws.proofs.Rules.{eq_z_refl}
 use Rattle.row.proofs.Tests.{cond_or}
 use Rattle.row.specs.Machine.Vertices.{addV, remV, conV, put}
 use Rattle.row.specs.Machine.World.{vert, addE, remE, conE, put_edge, between, alone}
@@ -12,7 +12,7 @@ use Rattle.row.specs.Machine.World
 use Rattle.row.proofs.Graphs.Loops.{end, via, Loopless}
 use Rattle.row.proofs.Graphs.Loops
 use Rattle.promises.specs.Graphs.{Graph, Walk, here, over}
-use Rattle.promises.specs.Alone.{Ask, with_series, without_series, with_pair, both, Alone, addV_new, addV_there, remV_there, remV_none, conV_there, conV_none, addE_no_end, addE_there, addE_new, remE_no_end, remE_there, remE_none, conE_there, conE_none}
+use Rattle.promises.specs.Alone.{Ask, with_series, without_series, with_pair, both, Alone, add_v_new, add_v_there, rem_v_there, rem_v_none, con_v_there, con_v_none, add_e_no_end, add_e_there, add_e_new, rem_e_no_end, rem_e_there, rem_e_none, con_e_there, con_e_none}
 use Rattle.promises.proofs.Showing.Tests.{pick_cond, pick_and}
 use Rattle.promises.proofs.Runs.Telling.{asked_of, graph_of}
 
@@ -62,23 +62,23 @@ module _ (g : World.Graph) (ends : Ended g) where
 
   more_left : (k : ℤ) → with_series (graph_of g) k ≡ graph_of (record { v = put g.v k true; e = between (put g.v k true) g.e })
   more_left k =
-      graph_path (λ i. pick_cond (eqZ i k) true (g.v i)) (λ i j. kept (g.v i) (g.v j) (g.e i j) (eqZ i k) (eqZ j k) (ends i j))
+      graph_path (λ i. pick_cond (eq_z i k) true (g.v i)) (λ i j. kept (g.v i) (g.v j) (g.e i j) (eq_z i k) (eq_z j k) (ends i j))
 
   less_left : (k : ℤ) → without_series (graph_of g) k ≡ graph_of (record { v = put g.v k false; e = between (put g.v k false) g.e })
   less_left k =
-      graph_path (λ i. pick_cond (eqZ i k) false (g.v i)) (λ i j. gone (g.v i) (g.v j) (g.e i j) (eqZ i k) (eqZ j k) (ends i j))
+      graph_path (λ i. pick_cond (eq_z i k) false (g.v i)) (λ i j. gone (g.v i) (g.v j) (g.e i j) (eq_z i k) (eq_z j k) (ends i j))
 
   pair_left : (k l : ℤ) (b : Bool) → with_pair (graph_of g) k l b ≡ graph_of (record { v = g.v; e = put_edge g.e k l b })
-  pair_left k l b = graph_path (λ i. refl) (λ i j. pick_and (eqZ i k) (eqZ j l) b (g.e i j))
+  pair_left k l b = graph_path (λ i. refl) (λ i j. pick_and (eq_z i k) (eq_z j l) b (g.e i j))
 
 -- ---- a pair that is put closes no loop, for there is none after it
 
 walk_put : (g : World.Graph) (k l : ℤ) {to from : ℤ} → Walk (graph_of g) to from → Loops.Walk (put_edge g.e k l true) to from
 walk_put g k l here = end refl
-walk_put g k l (over {from} next e w) = via next (cond_or (eqZ from k && eqZ next l) (g.e from next) e) (walk_put g k l w)
+walk_put g k l (over {from} next e w) = via next (cond_or (eq_z from k && eq_z next l) (g.e from next) e) (walk_put g k l w)
 
 closes_none : (g : World.Graph) (k l : ℤ) → Loopless (record { v = g.v; e = put_edge g.e k l true }) → Walk (graph_of g) k l → ⊥
-closes_none g k l n w = n k l (rw (eqZ_refl k, eqZ_refl l) refl) (walk_put g k l w)
+closes_none g k l n w = n k l (rw (eq_z_refl k, eq_z_refl l) refl) (walk_put g k l w)
 
 -- ---- each call
 
@@ -96,16 +96,16 @@ module _ (g h : World.Graph) (ends : Ended g) (n : Loopless h) (r : ℕ) where
   Left o = ◌≡◌ {A = ℕ × World.Graph} (o.0, record { v = o.1; e = between o.1 g.e }) (r, h)
 
   adds_v : (k : ℤ) (b : Bool) → g.v k ≡ b → Left (cond b (2, g.v) (1, put g.v k true)) → Does (Ask.AddV k)
-  adds_v k true e p = named (addV_there e) (same_left g ends) p
-  adds_v k false e p = named (addV_new e) (more_left g ends k) p
+  adds_v k true e p = named (add_v_there e) (same_left g ends) p
+  adds_v k false e p = named (add_v_new e) (more_left g ends k) p
 
   rems_v : (k : ℤ) (b : Bool) → g.v k ≡ b → Left (cond b (1, put g.v k false) (2, g.v)) → Does (Ask.RemV k)
-  rems_v k true e p = named (remV_there e) (less_left g ends k) p
-  rems_v k false e p = named (remV_none e) (same_left g ends) p
+  rems_v k true e p = named (rem_v_there e) (less_left g ends k) p
+  rems_v k false e p = named (rem_v_none e) (same_left g ends) p
 
   cons_v : (k : ℤ) (b : Bool) → g.v k ≡ b → Left (cond b 1 2, g.v) → Does (Ask.ConV k)
-  cons_v k true e p = named (conV_there e) (same_left g ends) p
-  cons_v k false e p = named (conV_none e) (same_left g ends) p
+  cons_v k true e p = named (con_v_there e) (same_left g ends) p
+  cons_v k false e p = named (con_v_none e) (same_left g ends) p
 
   module _ (k l : ℤ) where
     ends_are : {b : Bool} → (g.v k && g.v l) ≡ b → both (graph_of g) k l ≡ b
@@ -116,20 +116,20 @@ module _ (g h : World.Graph) (ends : Ended g) (n : Loopless h) (r : ℕ) where
 
     adds_e : (a b : Bool) → (g.v k && g.v l) ≡ a → g.e k l ≡ b → ◌≡◌ {A = ℕ × World.Graph} (cond a (cond b (4, g) (1, with_edge true)) (3, g)) (r, h)
         → Does (Ask.AddE k l)
-    adds_e true true e f p = named (addE_there (ends_are e) f) refl p
+    adds_e true true e f p = named (add_e_there (ends_are e) f) refl p
     adds_e true false e f p =
-        named (addE_new (ends_are e) f (closes_none g k l (subst Loopless (sym (ap (λ x. x.1) p)) n))) (pair_left g ends k l true) p
-    adds_e false b e f p = named (addE_no_end (ends_are e)) refl p
+        named (add_e_new (ends_are e) f (closes_none g k l (subst Loopless (sym (ap (λ x. x.1) p)) n))) (pair_left g ends k l true) p
+    adds_e false b e f p = named (add_e_no_end (ends_are e)) refl p
 
     rems_e : (a b : Bool) → (g.v k && g.v l) ≡ a → g.e k l ≡ b → ◌≡◌ {A = ℕ × World.Graph} (cond a (cond b (1, with_edge false) (5, g)) (3, g)) (r, h)
         → Does (Ask.RemE k l)
-    rems_e true true e f p = named (remE_there (ends_are e) f) (pair_left g ends k l false) p
-    rems_e true false e f p = named (remE_none (ends_are e) f) refl p
-    rems_e false b e f p = named (remE_no_end (ends_are e)) refl p
+    rems_e true true e f p = named (rem_e_there (ends_are e) f) (pair_left g ends k l false) p
+    rems_e true false e f p = named (rem_e_none (ends_are e) f) refl p
+    rems_e false b e f p = named (rem_e_no_end (ends_are e)) refl p
 
     cons_e : (b : Bool) → g.e k l ≡ b → ◌≡◌ {A = ℕ × World.Graph} (cond b 1 8, g) (r, h) → Does (Ask.ConE k l)
-    cons_e true e p = named (conE_there e) refl p
-    cons_e false e p = named (conE_none e) refl p
+    cons_e true e p = named (con_e_there e) refl p
+    cons_e false e p = named (con_e_none e) refl p
 
   pub alone_is : (q : World.Ask) → alone g q ≡ (r, h) → Does (asked_of q)
   alone_is (vert (addV k)) p = adds_v k (g.v k) refl p

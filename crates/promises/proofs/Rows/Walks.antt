@@ -5,9 +5,9 @@ use mathlib.Core.List.{List, [], ◌∷◌}
 use mathlib.Core.Logic.{◌⊎◌, inl, inr}
 use mathlib.Core.Path.{◌≡◌, refl}
 use lib.IntN.{ℤ}
-use Rattle.catalogue.specs.Tests.{pick, eqZ}
+use Rattle.catalogue.specs.Tests.{pick, eq_z}
 use Rattle.laws.proofs.Picks.{pick_both, clash}
-use Rattle.laws.proofs.Rules.{eqZ_refl, eqZ_eq}
+use Rattle.laws.proofs.Rules.{eq_z_refl, eq_z_eq}
 use Rattle.row.proofs.Tests.{same_key?}
 use Rattle.promises.specs.Graphs.{Graph, Walk, here, over, among, same_pair}
 
@@ -68,15 +68,15 @@ module _ (series : ℤ → Bool) where
 
     one_more : (of_pairs (p ∷ l)).derived p.0 p.1 ≡ true
     unfolding among
-    one_more = rw (eqZ_refl p.0, eqZ_refl p.1) refl
+    one_more = rw (eq_z_refl p.0, eq_z_refl p.1) refl
 
     that_one : (i j : ℤ) → (of_pairs (p ∷ l)).derived i j ≡ true → ((of_pairs l).derived i j ≡ true) ⊎ ((i ≡ p.0) × (j ≡ p.1))
     unfolding among
-    that_one i j = by (eqZ i p.0) (eqZ j p.1) refl refl
+    that_one i j = by (eq_z i p.0) (eq_z j p.1) refl refl
       where
-        by : (x y : Bool) → eqZ i p.0 ≡ x → eqZ j p.1 ≡ y → pick (pick x y false) true (among same_pair (i, j) l) ≡ true
+        by : (x y : Bool) → eq_z i p.0 ≡ x → eq_z j p.1 ≡ y → pick (pick x y false) true (among same_pair (i, j) l) ≡ true
             → (among same_pair (i, j) l ≡ true) ⊎ ((i ≡ p.0) × (j ≡ p.1))
-        by true true e f q = inr (eqZ_eq i p.0 e, eqZ_eq j p.1 f)
+        by true true e f q = inr (eq_z_eq i p.0 e, eq_z_eq j p.1 f)
         by true false e f q = inl q
         by false y e f q = inl q
 

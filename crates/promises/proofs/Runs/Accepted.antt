@@ -16,7 +16,7 @@ use Rattle.catalogue.specs.Steps.Places.{code_known, one_key}
 use Rattle.catalogue.specs.Script.{Script, Read, bad, good, and_then, Header, header_fits, header_of, read_header, key_fits, request_from, request_of_words, read_request, natural, signed, all_of, words, unsnoc, read_line, next_line, read_requests, read_schedule, ended, read_lines, read_script, script_limit, sum}
 use Rattle.catalogue.specs.declared.workers.Request.{Request}
 use Rattle.laws.proofs.Picks.{both_true, clash, pick_some}
-use Rattle.row.proofs.Base.{<ℤ-trans, ltZ_true}
+use Rattle.row.proofs.Base.{<ℤ-trans, lt_z_true}
 use Rattle.promises.specs.Moments.{All, none, each, Key, Fitting}
 use Rattle.promises.specs.Promises.{ScriptsPlayed}
 use Rattle.promises.proofs.Runs.Scripts.{script_choices, run_is, run_replies, run_keyed}
@@ -39,7 +39,7 @@ one_way : (a b : ℤ) → lt_z a b ≡ true → lt_z b a ≡ false
 one_way a b e = by (lt_z b a) refl
   where
     by : (t : Bool) → lt_z b a ≡ t → lt_z b a ≡ false
-    by true q = absurd (<ℤ_irrefl (<ℤ-trans (ltZ_true a b e) (ltZ_true b a q)))
+    by true q = absurd (<ℤ_irrefl (<ℤ-trans (lt_z_true a b e) (lt_z_true b a q)))
     by false q = q
 
 key_of : (k : ℤ) → key_fits k ≡ true → Key k

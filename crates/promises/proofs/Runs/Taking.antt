@@ -10,7 +10,7 @@ use borrow.Author.Tests.{leb-true, lt-ltb}
 use lib.IntN.{ℤ}
 use lib.Dec.{eqb, leb}
 use lib.Signed.{lt_z}
-use Rattle.catalogue.specs.Tests.{pick, upd, eqZ}
+use Rattle.catalogue.specs.Tests.{pick, upd, eq_z}
 use Rattle.catalogue.specs.Numbers.{least, greatest, reserved}
 use Rattle.catalogue.specs.Calls.{After, refuse, take_up}
 use Rattle.catalogue.specs.Choosing.{Moment}
@@ -22,7 +22,7 @@ use Rattle.catalogue.specs.declared.answers.Answer.TheVariants as answer
 use Rattle.catalogue.specs.declared.workers.Worker.{Worker}
 use Rattle.laws.proofs.Picks.{pick_both, clash, both_true}
 use Rattle.laws.proofs.Keys.{risen}
-use Rattle.row.proofs.Tests.{eqZ_yes, not_below, not_false}
+use Rattle.row.proofs.Tests.{eq_z_yes, not_below, not_false}
 use Rattle.row.specs.Machine.Vertices.{addV, remV, conV, fits_key}
 use Rattle.row.specs.Machine.World
 use Rattle.row.specs.Machine.World.{World, vert, addE, remE, conE}
@@ -49,14 +49,14 @@ fitting k h r = rw (above, below)
     above : lt_z least k ≡ true
     above =
         elim (not_below k least h.low) [
-          | inl e ↦ clash (cc (sym (eqZ_yes k least e) ∙ (neither (eqZ k least) (eqZ k greatest) r).0))
+          | inl e ↦ clash (cc (sym (eq_z_yes k least e) ∙ (neither (eq_z k least) (eq_z k greatest) r).0))
           | inr l ↦ risen least k l
         ]
 
     below : lt_z k greatest ≡ true
     below =
         elim (not_below greatest k h.high) [
-          | inl e ↦ clash (cc (sym (eqZ_yes k greatest (sym e)) ∙ (neither (eqZ k least) (eqZ k greatest) r).1))
+          | inl e ↦ clash (cc (sym (eq_z_yes k greatest (sym e)) ∙ (neither (eq_z k least) (eq_z k greatest) r).1))
           | inr l ↦ risen k greatest l
         ]
 

@@ -10,7 +10,7 @@ use borrow.Author.Tests.{lt-ltb}
 use lib.IntN.{ℤ}
 use lib.Dec.{eqb}
 use lib.Signed.{◌<ℤ◌, lt_z}
-use Rattle.catalogue.specs.Tests.{pick, eqZ}
+use Rattle.catalogue.specs.Tests.{pick, eq_z}
 use Rattle.catalogue.specs.Numbers.{added}
 use Rattle.catalogue.specs.Catalogue.{Catalogue, edge_link, at_edge}
 use Rattle.catalogue.specs.Steps.Both.{at_both}
@@ -22,12 +22,12 @@ use Rattle.catalogue.specs.declared.steps.Decision.TheVariants as decision
 use Rattle.catalogue.specs.declared.workers.Place.TheVariants as place
 use Rattle.catalogue.specs.declared.workers.Worker.{Worker}
 use Rattle.catalogue.specs.declared.writes.Write.TheVariants.{Nothing}
-use Rattle.row.proofs.Base.{ltZ_true}
+use Rattle.row.proofs.Base.{lt_z_true}
 use Rattle.row.proofs.Steps.Spots.{Pair}
 use Rattle.row.specs.Lists.Edges.{Tag, at, Mine}
 use Rattle.row.specs.Lists.Edges
 use Rattle.row.proofs.Graphs.Good.{WGood}
-use Rattle.laws.proofs.Rules.{eqZ_eq}
+use Rattle.laws.proofs.Rules.{eq_z_eq}
 use Rattle.row.specs.Machine.World.{World, ConE, goes, says, is_added}
 use Rattle.row.specs.Machine.Moves.{move}
 use Rattle.promises.proofs.Showing.Shows.{Shows, Asked, Follows, edge_tag_of, between}
@@ -89,17 +89,17 @@ module _ (C : Catalogue) (W : World) (s : Shows C W) (g : WGood W) (k l : ℤ) (
 
     contains : Asked (place.ConE (between k l u v) c) → Decides (step_contains_edge C (between k l u v) c) → Follows C w (move W (ConE k l u v c))
     unfolding step_contains_edge
-    contains a d = by (lt_z (W.e.key c) l) (eqZ (W.e.key c) l) refl refl (rw (lt-ltb c 2048 in_pool, s.ekeys c handed) at d)
+    contains a d = by (lt_z (W.e.key c) l) (eq_z (W.e.key c) l) refl refl (rw (lt-ltb c 2048 in_pool, s.ekeys c handed) at d)
       where
-        by : (b q : Bool) → lt_z (W.e.key c) l ≡ b → eqZ (W.e.key c) l ≡ q
+        by : (b q : Bool) → lt_z (W.e.key c) l ≡ b → eq_z (W.e.key c) l ≡ q
             → Decides
             (pick b (at_edge (edge_link C c) decision.Torn (λ next tag. decision.Going (place.ConE (between k l u v) next) Nothing))
             (pick q (settle_contains_edge C (between k l u v) c) (decision.Reply 8 Nothing)))
             → Follows C w (cond b (goes W (ConE k l u v (W.e.next c))) (cond dead (says W 8) (cond (q && leads) (says W 1) (says W 8))))
         by true q e f d =
             walks_on C W s w (place.ConE (between k l u v) (W.e.next c)) (ConE k l u v (W.e.next c))
-            (d ∙ rw (s.elinks c (inner (inl (ltZ_true (W.e.key c) l e))) handed)) a refl
-        by false true e f d = says_number dead leads (d ∙ settles (inner (inr (eqZ_eq (W.e.key c) l f))))
+            (d ∙ rw (s.elinks c (inner (inl (lt_z_true (W.e.key c) l e))) handed)) a refl
+        by false true e f d = says_number dead leads (d ∙ settles (inner (inr (eq_z_eq (W.e.key c) l f))))
         by false false e f d = says_number dead false (d ∙ eight dead)
           where
             eight : (x : Bool) → decision.Reply 8 Nothing ≡ decision.Reply (number x false) Nothing

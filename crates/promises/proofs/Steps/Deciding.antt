@@ -2,7 +2,7 @@
 use Prim.Native.Nat.{ℕ}
 use mathlib.Core.Bool.{Bool, true, false, cond}
 use mathlib.Core.Path.{◌≡◌, refl}
-use Rattle.catalogue.specs.Tests.{eqZ}
+use Rattle.catalogue.specs.Tests.{eq_z}
 use Rattle.catalogue.specs.Numbers.{reserved}
 use Rattle.catalogue.specs.Catalogue.{Catalogue}
 use Rattle.catalogue.specs.Workers.{idle, bare, ahead}
@@ -35,7 +35,7 @@ decides C w pl e a = let b = rw e at a in (b, rw (e, b))
 
 -- a worker that has replied
 pub rests : (used : ℕ) → Shown used idle Rest
-unfolding key_refused reserved eqZ
+unfolding key_refused reserved eq_z
 rests used = record { asked = refl; stands = refl }
 
 module _ (C : Catalogue) (w : Worker) (X : World) (write : Write) (shows : Shows (commit C write) X) where

@@ -8,7 +8,7 @@ use borrow.Author.Tests.{eqb-true, eq-eqb, ne_eqb, lt-ltb}
 use lib.IntN.{ℤ}
 use lib.Dec.{eqb}
 use lib.Signed.{lt_z}
-use Rattle.catalogue.specs.Tests.{pick, eqZ}
+use Rattle.catalogue.specs.Tests.{pick, eq_z}
 use Rattle.catalogue.specs.Numbers.{plain}
 use Rattle.catalogue.specs.Catalogue.{Catalogue, vertex_link, edge_target, at_mark, at_target}
 use Rattle.catalogue.specs.Steps.Both.{at_both}
@@ -17,8 +17,8 @@ use Rattle.catalogue.specs.declared.links.EdgeLink.TheVariants as edge
 use Rattle.catalogue.specs.declared.steps.BothSeen.TheVariants as both
 use Rattle.catalogue.specs.declared.steps.EdgeSeen.{EdgeSeen}
 use Rattle.catalogue.specs.declared.steps.EdgeSeen.TheVariants as seen
-use Rattle.row.proofs.Base.{ltZ_true}
-use Rattle.laws.proofs.Rules.{eqZ_eq, not_true_false}
+use Rattle.row.proofs.Base.{lt_z_true}
+use Rattle.laws.proofs.Rules.{eq_z_eq, not_true_false}
 use Rattle.row.proofs.Steps.VertexDeeds.{Legal}
 use Rattle.row.specs.Lists.Edges.{Tag, marked, transit, added, Prev, head, at, is_marked, tag_at, link, Mine}
 use Rattle.row.specs.Machine.World.{World, is_added}
@@ -40,9 +40,9 @@ pub data Sees (W : World) (l : ℤ) (u : ℕ) (p : Prev) (c : ℕ) : EdgeSeen �
   passes : link W.e u p ≡ c → Out W.e.used c → Sees W l u p c (seen.Unlinks (tag_behind W.e.tag p) (W.e.next c)) e_passes
   marks : Out W.e.used c → Sees W l u p c (seen.Marks (W.e.next c)) e_marks
   onward : Out W.e.used c → Sees W l u p c (seen.Onward (W.e.next c)) e_onward
-  equal : link W.e u p ≡ c → Out W.e.used c → eqZ (W.e.key c) l ≡ true → (t : Tag) → W.e.tag c ≡ t → is_marked t ≡ false
+  equal : link W.e u p ≡ c → Out W.e.used c → eq_z (W.e.key c) l ≡ true → (t : Tag) → W.e.tag c ≡ t → is_marked t ≡ false
       → Sees W l u p c (seen.Settles (landed (tag_behind W.e.tag p) (W.e.next c) (edge_tag_of t) true)) e_settle
-  other : link W.e u p ≡ c → eqZ (W.e.key c) l ≡ false → (next tag : ℕ)
+  other : link W.e u p ≡ c → eq_z (W.e.key c) l ≡ false → (next tag : ℕ)
       → Sees W l u p c (seen.Settles (landed (tag_behind W.e.tag p) next tag false)) e_settle
 
 -- the machine's look at c, for a p that leads there
@@ -76,15 +76,15 @@ module _ (C : Catalogue) (W : World) (s : Shows C W) (g : WGood W) (l : ℤ) (u 
   abbrev by_key : ℕ → ℕ → Bool → Bool → EdgeSeen
   by_key next tag lower same = pick lower (seen.Onward next) (pick same (seen.Settles (landed kept next tag true)) (seen.Settles (landed kept next tag false)))
 
-  key_seen : (next tag : ℕ) → c < W.e.used → see_key C l c kept next tag ≡ by_key next tag (lt_z (W.e.key c) l) (eqZ (W.e.key c) l)
+  key_seen : (next tag : ℕ) → c < W.e.used → see_key C l c kept next tag ≡ by_key next tag (lt_z (W.e.key c) l) (eq_z (W.e.key c) l)
   unfolding see_key
   key_seen next tag h = rw (s.ekeys c h)
 
   key_sees : (t : Tag) → W.e.tag c ≡ t → is_marked t ≡ false → link W.e u p ≡ c → Out W.e.used c
       → Sees W l u p c (see_key C l c kept (W.e.next c) (edge_tag_of t)) (cond (lt_z (W.e.key c) l) e_onward e_settle)
-  key_sees t e m lead o = rw (key_seen (W.e.next c) (edge_tag_of t) o.1) (by (lt_z (W.e.key c) l) (eqZ (W.e.key c) l) refl)
+  key_sees t e m lead o = rw (key_seen (W.e.next c) (edge_tag_of t) o.1) (by (lt_z (W.e.key c) l) (eq_z (W.e.key c) l) refl)
     where
-      by : (b q : Bool) → eqZ (W.e.key c) l ≡ q → Sees W l u p c (by_key (W.e.next c) (edge_tag_of t) b q) (cond b e_onward e_settle)
+      by : (b q : Bool) → eq_z (W.e.key c) l ≡ q → Sees W l u p c (by_key (W.e.next c) (edge_tag_of t) b q) (cond b e_onward e_settle)
       by true q f = onward o
       by false true f = equal lead o f t e m
       by false false f = other lead f (W.e.next c) (edge_tag_of t)
@@ -120,10 +120,10 @@ module _ (C : Catalogue) (W : World) (s : Shows C W) (g : WGood W) (l : ℤ) (u 
       rw (eq-eqb c 0 z, key_seen 0 plain (omega (arith, g.esound.some)), ap W.e.tag z ∙ g.tail_tag) (rw (not_lower, not_equal) (other lead not_equal 0 plain))
     where
       not_lower : lt_z (W.e.key c) l ≡ false
-      not_lower = not_true_false (lt_z (W.e.key c) l) (λ e. below_tail W g l legal c (inl (ltZ_true (W.e.key c) l e)) z)
+      not_lower = not_true_false (lt_z (W.e.key c) l) (λ e. below_tail W g l legal c (inl (lt_z_true (W.e.key c) l e)) z)
 
-      not_equal : eqZ (W.e.key c) l ≡ false
-      not_equal = not_true_false (eqZ (W.e.key c) l) (λ e. below_tail W g l legal c (inr (eqZ_eq (W.e.key c) l e)) z)
+      not_equal : eq_z (W.e.key c) l ≡ false
+      not_equal = not_true_false (eq_z (W.e.key c) l) (λ e. below_tail W g l legal c (inr (eq_z_eq (W.e.key c) l e)) z)
 
   edge_sees : link W.e u p ≡ c → Sees W l u p c (see_edge C l c kept) (looks_there W l c)
   edge_sees lead = by (rw lead at ((g.esound.sorted u).follows p aims.inside aims.inner).inside)

@@ -5,7 +5,7 @@ use mathlib.Core.Path.{◌≡◌, refl}
 use mathlib.Core.Logic.{◌⊎◌, inl, inr}
 use native.Mathlib.Omega.{arith}
 use borrow.Author.Tests.{le-leb, lt-leb}
-use Rattle.catalogue.specs.Tests.{eqZ}
+use Rattle.catalogue.specs.Tests.{eq_z}
 use Rattle.catalogue.specs.Catalogue.{Catalogue}
 use Rattle.catalogue.specs.Steps.Edges.{landed, insert, settle_add_edge, settle_remove_edge, settle_edge}
 use Rattle.catalogue.specs.Steps.Decide.{decide}
@@ -54,7 +54,7 @@ module _ (C : Catalogue) (W : World) (s : Shows C W) (some : 1 ≤ W.e.used) (w 
     reply = refl;
   }
 
-  adds_new : Allowed 4 ends.pair → link W.e ends.u p ≡ c → eqZ (W.e.key c) ends.pair.l ≡ false → (next tag : ℕ)
+  adds_new : Allowed 4 ends.pair → link W.e ends.u p ≡ c → eq_z (W.e.key c) ends.pair.l ≡ false → (next tag : ℕ)
       → decide C w ≡ settle_add_edge C ends (prev_of p) c (landed kept next tag false) → Settles true
   unfolding settle_add_edge
   adds_new a lead e next tag d = by (lt_or C.counts.edges 2047)
@@ -67,7 +67,7 @@ module _ (C : Catalogue) (W : World) (s : Shows C W) (some : 1 ≤ W.e.used) (w 
           rw (e, le-leb 2048 W.e.used (omega (arith, s.edges)))
           (says_so C W s w 9 (rw (room_full 2047 1 C.counts.edges s.edges_fit h) at d))
 
-  adds_known : (t : Tag) → W.e.tag c ≡ t → is_marked t ≡ false → eqZ (W.e.key c) ends.pair.l ≡ true
+  adds_known : (t : Tag) → W.e.tag c ≡ t → is_marked t ≡ false → eq_z (W.e.key c) ends.pair.l ≡ true
       → decide C w ≡ settle_add_edge C ends (prev_of p) c (landed kept (W.e.next c) (edge_tag_of t) true) → Settles true
   unfolding settle_add_edge
   adds_known marked f m e d = clash (cc)
@@ -76,11 +76,11 @@ module _ (C : Catalogue) (W : World) (s : Shows C W) (some : 1 ≤ W.e.used) (w 
 
   -- ---- settling, for RemE
 
-  removes_none : eqZ (W.e.key c) ends.pair.l ≡ false → (next tag : ℕ) → decide C w ≡ settle_remove_edge c (landed kept next tag false) → Settles false
+  removes_none : eq_z (W.e.key c) ends.pair.l ≡ false → (next tag : ℕ) → decide C w ≡ settle_remove_edge c (landed kept next tag false) → Settles false
   unfolding settle_remove_edge
   removes_none e next tag d = rw e (says_so C W s w 5 d)
 
-  removes_known : Out W.e.used c → (t : Tag) → W.e.tag c ≡ t → is_marked t ≡ false → eqZ (W.e.key c) ends.pair.l ≡ true
+  removes_known : Out W.e.used c → (t : Tag) → W.e.tag c ≡ t → is_marked t ≡ false → eq_z (W.e.key c) ends.pair.l ≡ true
       → decide C w ≡ settle_remove_edge c (landed kept (W.e.next c) (edge_tag_of t) true) → Settles false
   unfolding settle_remove_edge
   removes_known o marked f m e d = clash (cc)
@@ -90,13 +90,13 @@ module _ (C : Catalogue) (W : World) (s : Shows C W) (some : 1 ≤ W.e.used) (w 
 
   -- ---- either
 
-  pub settles_other : (b : Bool) → Allowed (edge_code b) ends.pair → link W.e ends.u p ≡ c → eqZ (W.e.key c) ends.pair.l ≡ false → (next tag : ℕ)
+  pub settles_other : (b : Bool) → Allowed (edge_code b) ends.pair → link W.e ends.u p ≡ c → eq_z (W.e.key c) ends.pair.l ≡ false → (next tag : ℕ)
       → decide C w ≡ settle_edge C (edge_code b) ends (prev_of p) c (landed kept next tag false) → Settles b
   unfolding settle_edge
   settles_other true a lead e next tag d = adds_new a lead e next tag d
   settles_other false a lead e next tag d = removes_none e next tag d
 
-  pub settles_equal : (b : Bool) → Out W.e.used c → (t : Tag) → W.e.tag c ≡ t → is_marked t ≡ false → eqZ (W.e.key c) ends.pair.l ≡ true
+  pub settles_equal : (b : Bool) → Out W.e.used c → (t : Tag) → W.e.tag c ≡ t → is_marked t ≡ false → eq_z (W.e.key c) ends.pair.l ≡ true
       → decide C w ≡ settle_edge C (edge_code b) ends (prev_of p) c (landed kept (W.e.next c) (edge_tag_of t) true) → Settles b
   unfolding settle_edge
   settles_equal true o t f m e d = adds_known t f m e d

@@ -8,7 +8,7 @@ use borrow.Author.Tests.{eqb-true, ne_eqb}
 use lib.IntN.{ℤ}
 use lib.Dec.{eqb}
 use lib.Signed.{lt_z}
-use Rattle.catalogue.specs.Tests.{pick, eqZ}
+use Rattle.catalogue.specs.Tests.{pick, eq_z}
 use Rattle.catalogue.specs.Numbers.{plain, marked}
 use Rattle.catalogue.specs.Catalogue.{Catalogue, vertex_link, vertex_link_in}
 use Rattle.catalogue.specs.Steps.Vertices.{see_vertex, look_at_vertex}
@@ -19,9 +19,9 @@ use Rattle.catalogue.specs.declared.steps.VertexSeen.TheVariants as seen
 use Rattle.catalogue.specs.declared.steps.VertexFound.{VertexFound}
 use Rattle.catalogue.specs.declared.steps.VertexFound.TheVariants as finds
 use Rattle.laws.proofs.Picks.{clash}
-use Rattle.row.proofs.Base.{same?, ltZ_true}
+use Rattle.row.proofs.Base.{same?, lt_z_true}
 use Rattle.row.proofs.Steps.VertexDeeds.{Legal, Aims, not_tail}
-use Rattle.laws.proofs.Rules.{eqZ_eq}
+use Rattle.laws.proofs.Rules.{eq_z_eq}
 use Rattle.row.specs.Machine.Vertices.{Seen, again, passes, onward, settle, look}
 use Rattle.row.specs.Lists.Store.{Cat, Inner, Good}
 use Rattle.row.specs.Machine.World.{World}
@@ -39,8 +39,8 @@ pub data Looked (D : Cat) (k : ℤ) (p c : ℕ) : VertexSeen → Seen → Type 0
   sees_again : Looked D k p c seen.Again again
   sees_gone : Inner D p → D.next p ≡ c → c < D.used → (c ≡ 1 → ⊥) → Looked D k p c (seen.Unlinks (D.next c)) passes
   sees_lower : Looked D k p c (seen.Onward (D.next c)) onward
-  sees_equal : c < D.used → (c ≡ 1 → ⊥) → eqZ (D.key c) k ≡ true → Looked D k p c (seen.Settles (D.next c) true) settle
-  sees_above : (n : ℕ) → Inner D p → D.next p ≡ c → eqZ (D.key c) k ≡ false → Looked D k p c (seen.Settles n false) settle
+  sees_equal : c < D.used → (c ≡ 1 → ⊥) → eq_z (D.key c) k ≡ true → Looked D k p c (seen.Settles (D.next c) true) settle
+  sees_above : (n : ℕ) → Inner D p → D.next p ≡ c → eq_z (D.key c) k ≡ false → Looked D k p c (seen.Settles n false) settle
 
 -- what ConV, and a look for u or v, sees
 pub data Sought (D : Cat) (k : ℤ) (c : ℕ) : VertexFound → VSeen → Type 0 where
@@ -75,15 +75,15 @@ module _ (C : Catalogue) (W : World) (s : Shows C W) (g : Good W.v) where
 
   module _ (k : ℤ) (legal : Legal k) where
     lower_inner : (c : ℕ) → lt_z (D.key c) k ≡ true → c ≡ 1 → ⊥
-    lower_inner c e = not_tail D g k legal {c = c} (inl (ltZ_true (D.key c) k e))
+    lower_inner c e = not_tail D g k legal {c = c} (inl (lt_z_true (D.key c) k e))
 
-    equal_inner : (c : ℕ) → eqZ (D.key c) k ≡ true → c ≡ 1 → ⊥
-    equal_inner c e = not_tail D g k legal {c = c} (inr (eqZ_eq (D.key c) k e))
+    equal_inner : (c : ℕ) → eq_z (D.key c) k ≡ true → c ≡ 1 → ⊥
+    equal_inner c e = not_tail D g k legal {c = c} (inr (eq_z_eq (D.key c) k e))
 
     module _ (c : ℕ) (h : c < D.used) (r : Reads C W c) where
       seeks : Sought D k c (look_for C k c) (vlook D k c)
       unfolding look_for
-      seeks = rw (s.vkeys c h, r.reads) (by (lt_z (D.key c) k) (eqZ (D.key c) k) (D.marked c) refl)
+      seeks = rw (s.vkeys c h, r.reads) (by (lt_z (D.key c) k) (eq_z (D.key c) k) (D.marked c) refl)
         where
           by : (a b m : Bool) → lt_z (D.key c) k ≡ a
               → Sought D k c (pick a (finds.Onward r.to) (pick b (pick (eqb (vertex_tag_of m) marked) finds.Missing finds.Found) finds.Missing))
@@ -95,9 +95,9 @@ module _ (C : Catalogue) (W : World) (s : Shows C W) (g : Good W.v) where
 
       sees : (p : ℕ) → Inner D p → D.next p ≡ c → Looked D k p c (see_vertex C k c) (cond (D.marked c) passes (cond (lt_z (D.key c) k) onward settle))
       unfolding see_vertex
-      sees p i to_c = rw (r.reads, s.vkeys c h) (by (D.marked c) (lt_z (D.key c) k) (eqZ (D.key c) k) refl refl refl)
+      sees p i to_c = rw (r.reads, s.vkeys c h) (by (D.marked c) (lt_z (D.key c) k) (eq_z (D.key c) k) refl refl refl)
         where
-          by : (m l e : Bool) → D.marked c ≡ m → lt_z (D.key c) k ≡ l → eqZ (D.key c) k ≡ e
+          by : (m l e : Bool) → D.marked c ≡ m → lt_z (D.key c) k ≡ l → eq_z (D.key c) k ≡ e
               → Looked D k p c
               (pick (eqb (vertex_tag_of m) marked) (seen.Unlinks r.to)
               (pick l (seen.Onward r.to) (pick e (seen.Settles r.to true) (seen.Settles r.to false))))

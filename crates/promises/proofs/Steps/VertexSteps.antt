@@ -8,7 +8,7 @@ use borrow.Author.Tests.{le-leb, lt-leb}
 use lib.IntN.{ℤ, pos}
 use lib.Dec.{leb}
 use lib.Signed.{lt_z}
-use Rattle.catalogue.specs.Tests.{eqZ}
+use Rattle.catalogue.specs.Tests.{eq_z}
 use Rattle.catalogue.specs.Numbers.{plain, marked, room}
 use Rattle.catalogue.specs.Catalogue.{Catalogue}
 use Rattle.catalogue.specs.Workers.{asks}
@@ -119,7 +119,7 @@ module _ (C : Catalogue) (W : World) (s : Shows C W) (g : WGood W) (w : Worker) 
   contains c missing = replies D 2
 
   contains_is : (c : ℕ) → step D (ConV k c) ≡ contains c (vlook D k c)
-  contains_is c = by (lt_z (D.key c) k) (eqZ (D.key c) k && not (D.marked c))
+  contains_is c = by (lt_z (D.key c) k) (eq_z (D.key c) k && not (D.marked c))
     where
       by : (a b : Bool) → cond a (going D (ConV k (D.next c))) (cond b (replies D 1) (replies D 2)) ≡ contains c (cond a lower (cond b found missing))
       by true b = refl

@@ -7,7 +7,7 @@ use Rattle.catalogue.specs.Catalogue.{Catalogue}
 use Rattle.catalogue.specs.Numbers.{least}
 use Rattle.catalogue.specs.Soundness.{sweep, sound}
 use Rattle.catalogue.specs.Sweep.{swept}
-use Rattle.catalogue.specs.Tests.{eqZ}
+use Rattle.catalogue.specs.Tests.{eq_z}
 use Rattle.catalogue.specs.Live.{live_keys, live_pairs}
 use Rattle.resting.proofs.Keeping.{kept}
 use Rattle.row.specs.Machine.Vertices.{live}
@@ -31,7 +31,7 @@ pub record Swept (C : Catalogue) : Type 0 where
 -- a catalogue with the live graph of another shows the same one
 module _ (C D : Catalogue) (W X : World) (s : Shows C W) (g : WGood W) (t : Shows D X) (h : WGood X) where
   same_live : live_keys D ≡ live_keys C → live X.v ≡ live W.v
-  same_live e = fun_ext (λ k. sym (series_is D X t h k) ∙ ap (among eqZ k) e ∙ series_is C W s g k)
+  same_live e = fun_ext (λ k. sym (series_is D X t h k) ∙ ap (among eq_z k) e ∙ series_is C W s g k)
 
   same_edge : live_pairs D ≡ live_pairs C → edges X ≡ edges W
   same_edge e = fun_ext (λ k. fun_ext (λ l. sym (derived_is D X t h k l) ∙ ap (among same_pair (k, l)) e ∙ derived_is C W s g k l))

@@ -13,7 +13,7 @@ use Rattle.row.specs.Lists.Store.{Cat, view, Step}
 use Rattle.row.proofs.Lists.Kept.{step_sound, step_moves}
 use Rattle.row.specs.Machine.Vertices.{live}
 use Rattle.row.proofs.Graphs.LiveSet.{present_live, present_yes, yes_present}
-use Rattle.row.proofs.Tests.{eqZ_yes, eqZ_no, same_key?, and_true, bool_iff}
+use Rattle.row.proofs.Tests.{eq_z_yes, eq_z_no, same_key?, and_true, bool_iff}
 use Rattle.row.specs.Lists.Edges.{Tag, marked, transit, added, Prev, einsert, retag}
 use Rattle.row.specs.Machine.World.{World, with_e, edges, put_edge, between}
 use Rattle.row.proofs.Graphs.Good.{WGood}
@@ -27,13 +27,13 @@ pair? x k y l =
     ]
 
 put_at : (g : ℤ → ℤ → Bool) (k l : ℤ) (b : Bool) (x y : ℤ) → x ≡ k → y ≡ l → {t : Bool} → t ≡ b → t ≡ put_edge g k l b x y
-put_at g k l b x y p q e = rw (eqZ_yes x k p, eqZ_yes y l q) e
+put_at g k l b x y p q e = rw (eq_z_yes x k p, eq_z_yes y l q) e
 
 put_else : (g : ℤ → ℤ → Bool) (k l : ℤ) (b : Bool) (x y : ℤ) → ((x ≡ k) × (y ≡ l) → ⊥) → {t : Bool} → t ≡ g x y → t ≡ put_edge g k l b x y
 put_else g k l b x y d e =
     elim (same_key? x k) [
-      | inl p ↦ elim (same_key? y l) [ inl q ↦ absurd (d (p, q)) | inr m ↦ rw (eqZ_yes x k p, eqZ_no y l m) e ]
-      | inr n ↦ rw (eqZ_no x k n) e
+      | inl p ↦ elim (same_key? y l) [ inl q ↦ absurd (d (p, q)) | inr m ↦ rw (eq_z_yes x k p, eq_z_no y l m) e ]
+      | inr n ↦ rw (eq_z_no x k n) e
     ]
 
 module _ (W : World) (g : WGood W) where

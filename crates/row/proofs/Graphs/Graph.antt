@@ -12,9 +12,9 @@ use Rattle.row.proofs.Base.{same?}
 use Rattle.row.proofs.Lists.LinkLaws.{unique}
 use Rattle.row.specs.Lists.Links.{Live}
 use Rattle.row.specs.Lists.Store.{Cat, view}
-use Rattle.catalogue.specs.Tests.{eqZ}
-use Rattle.laws.proofs.Rules.{eqZ_eq}
-use Rattle.row.proofs.Tests.{eqZ_yes, and_true, not_true, cond_or, bool_iff}
+use Rattle.catalogue.specs.Tests.{eq_z}
+use Rattle.laws.proofs.Rules.{eq_z_eq}
+use Rattle.row.proofs.Tests.{eq_z_yes, and_true, not_true, cond_or, bool_iff}
 use Rattle.row.specs.Lists.Edges.{Tag, marked, transit, added, head, at, is_marked, InList, eview}
 use Rattle.row.specs.Machine.World.{World, is_added, is_edge, has_edge, edges}
 use Rattle.row.proofs.Graphs.Good.{WGood}
@@ -47,22 +47,22 @@ module _ (vm : ℕ → Bool) (vk : ℕ → ℤ) (tag : ℕ → Tag) (owner targe
     comes : ek x ≡ l
 
   edge_is : (x : ℕ) → Edge x → is_edge vm vk tag owner target ek k l x ≡ true
-  edge_is x p = rw (le-leb 1 x p.low, p.is, p.source, p.goal, eqZ_yes (vk (owner x)) k p.leaves, eqZ_yes (ek x) l p.comes)
+  edge_is x p = rw (le-leb 1 x p.low, p.is, p.source, p.goal, eq_z_yes (vk (owner x)) k p.leaves, eq_z_yes (ek x) l p.comes)
 
   is_there : (x : ℕ) → is_edge vm vk tag owner target ek k l x ≡ true → Edge x
   is_there x e =
-      let a = and_true (leb 1 x) (is_added (tag x) && (not (vm (owner x)) && (not (vm (target x)) && (eqZ (vk (owner x)) k && eqZ (ek x) l)))) e in
-      let b = and_true (is_added (tag x)) (not (vm (owner x)) && (not (vm (target x)) && (eqZ (vk (owner x)) k && eqZ (ek x) l))) a.1 in
-      let c = and_true (not (vm (owner x))) (not (vm (target x)) && (eqZ (vk (owner x)) k && eqZ (ek x) l)) b.1 in
-      let d = and_true (not (vm (target x))) (eqZ (vk (owner x)) k && eqZ (ek x) l) c.1 in
-      let f = and_true (eqZ (vk (owner x)) k) (eqZ (ek x) l) d.1 in
+      let a = and_true (leb 1 x) (is_added (tag x) && (not (vm (owner x)) && (not (vm (target x)) && (eq_z (vk (owner x)) k && eq_z (ek x) l)))) e in
+      let b = and_true (is_added (tag x)) (not (vm (owner x)) && (not (vm (target x)) && (eq_z (vk (owner x)) k && eq_z (ek x) l))) a.1 in
+      let c = and_true (not (vm (owner x))) (not (vm (target x)) && (eq_z (vk (owner x)) k && eq_z (ek x) l)) b.1 in
+      let d = and_true (not (vm (target x))) (eq_z (vk (owner x)) k && eq_z (ek x) l) c.1 in
+      let f = and_true (eq_z (vk (owner x)) k) (eq_z (ek x) l) d.1 in
       record {
         low = leb-true 1 x a.0;
         is = added_is (tag x) b.0;
         source = not_true (vm (owner x)) c.0;
         goal = not_true (vm (target x)) d.0;
-        leaves = eqZ_eq (vk (owner x)) k f.0;
-        comes = eqZ_eq (ek x) l f.1;
+        leaves = eq_z_eq (vk (owner x)) k f.0;
+        comes = eq_z_eq (ek x) l f.1;
       }
 
   has_yes : (n x : ℕ) → x < n → Edge x → has_edge vm vk tag owner target ek k l n ≡ true

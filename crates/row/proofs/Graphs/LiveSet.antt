@@ -7,14 +7,14 @@ use native.Mathlib.Omega.{arith}
 use lib.IntN.{ℤ}
 use lib.Dec.{leb}
 use borrow.Author.Tests.{leb-true, le-leb}
-use Rattle.laws.proofs.Rules.{eqZ_eq}
+use Rattle.laws.proofs.Rules.{eq_z_eq}
 use Rattle.laws.proofs.Picks.{clash}
 use Rattle.row.proofs.Base.{upd_at, upd_other, upds, same?}
-use Rattle.row.proofs.Tests.{eqZ_yes, eqZ_no, same_key?, and_true, not_true, cond_or, bool_iff}
+use Rattle.row.proofs.Tests.{eq_z_yes, eq_z_no, same_key?, and_true, not_true, cond_or, bool_iff}
 use Rattle.row.proofs.Lists.LinkLaws.{unique}
 use Rattle.row.specs.Lists.Links.{Live}
 use Rattle.row.specs.Lists.Store.{Cat, view, insert, unlink, mark, Stands, Sound}
-use Rattle.catalogue.specs.Tests.{eqZ}
+use Rattle.catalogue.specs.Tests.{eq_z}
 use Rattle.row.specs.Machine.Vertices.{is_live, has, live, put}
 
 -- ---- in the live set
@@ -30,7 +30,7 @@ pub present_live : {C : Cat} {k : ℤ} → Present C k → Live (view C) k
 present_live p = record { node = p.node; inside = p.high; plain = p.plain; has = p.holds }
 
 live_yes : (C : Cat) (k : ℤ) (x : ℕ) → 2 ≤ x → C.marked x ≡ false → C.key x ≡ k → is_live C.marked C.key k x ≡ true
-live_yes C k x l u e = rw (le-leb 2 x l, u, eqZ_yes (C.key x) k e)
+live_yes C k x l u e = rw (le-leb 2 x l, u, eq_z_yes (C.key x) k e)
 
 has_yes : (C : Cat) (k : ℤ) (n x : ℕ) → x < n → is_live C.marked C.key k x ≡ true → has C.marked C.key k n ≡ true
 unfolding has
@@ -48,9 +48,9 @@ has_found C k (suc n) h e = by (is_live C.marked C.key k n) refl (λ f. has_foun
   where
     by : (t : Bool) → is_live C.marked C.key k n ≡ t → (has C.marked C.key k n ≡ true → Present C k) → cond t true (has C.marked C.key k n) ≡ true → Present C k
     by true f g e =
-        let p = and_true (leb 2 n) (not (C.marked n) && eqZ (C.key n) k) f in
-        let q = and_true (not (C.marked n)) (eqZ (C.key n) k) p.1 in
-        record { node = n; low = leb-true 2 n p.0; high = h; plain = not_true (C.marked n) q.0; holds = eqZ_eq (C.key n) k q.1 }
+        let p = and_true (leb 2 n) (not (C.marked n) && eq_z (C.key n) k) f in
+        let q = and_true (not (C.marked n)) (eq_z (C.key n) k) p.1 in
+        record { node = n; low = leb-true 2 n p.0; high = h; plain = not_true (C.marked n) q.0; holds = eq_z_eq (C.key n) k q.1 }
     by false f g e = g e
 
 pub present_yes : {C : Cat} {k : ℤ} → Present C k → live C k ≡ true
@@ -80,8 +80,8 @@ live_insert C p k s =
     elim (same_key? j k) [
       | inl q ↦
           let b = s.some in
-          rw (eqZ_yes j k q) (present_yes {C = insert C p k} (record { node = C.used; low = b; high = omega arith; plain = search upds; holds = search (upds, ← q) }))
-      | inr n ↦ rw (eqZ_no j k n) (same_at (insert C p k) C j (down j n) (up j))
+          rw (eq_z_yes j k q) (present_yes {C = insert C p k} (record { node = C.used; low = b; high = omega arith; plain = search upds; holds = search (upds, ← q) }))
+      | inr n ↦ rw (eq_z_no j k n) (same_at (insert C p k) C j (down j n) (up j))
     ])
   where
     up : (j : ℤ) → Present C j → Present (insert C p k) j
@@ -104,8 +104,8 @@ pub live_mark : (C : Cat) (x : ℕ) → Sound C → Stands C x → live (mark C 
 live_mark C x s w =
     fun_ext (λ j.
     elim (same_key? j (C.key x)) [
-      | inl q ↦ rw (eqZ_yes j (C.key x) q) (present_no (mark C x) j (gone j q))
-      | inr n ↦ rw (eqZ_no j (C.key x) n) (same_at (mark C x) C j (down j) (up j n))
+      | inl q ↦ rw (eq_z_yes j (C.key x) q) (present_no (mark C x) j (gone j q))
+      | inr n ↦ rw (eq_z_no j (C.key x) n) (same_at (mark C x) C j (down j) (up j n))
     ])
   where
     down : (j : ℤ) → Present (mark C x) j → Present C j

@@ -9,14 +9,14 @@ use lib.Dec.{eqb, leb}
 use lib.Signed.{◌<ℤ◌, lt_z, <ℤ_irrefl}
 use borrow.Author.Tests.{eqb-true, eqb-false}
 use Rattle.laws.proofs.Picks.{clash}
-use Rattle.row.proofs.Base.{upd_same, ltZ_true}
+use Rattle.row.proofs.Base.{upd_same, lt_z_true}
 use Rattle.row.proofs.Lists.LinkLaws.{no_tail, gap_dead}
-use Rattle.catalogue.specs.Tests.{eqZ}
+use Rattle.catalogue.specs.Tests.{eq_z}
 use Rattle.row.specs.Machine.Vertices.{Idle, live}
 use Rattle.row.specs.Machine.Vertices
-use Rattle.laws.proofs.Rules.{eqZ_eq}
+use Rattle.laws.proofs.Rules.{eq_z_eq}
 use Rattle.row.proofs.Graphs.LiveSet.{present_yes}
-use Rattle.row.proofs.Tests.{eqZ_yes, eqZ_no, not_below, or_true}
+use Rattle.row.proofs.Tests.{eq_z_yes, eq_z_no, not_below, or_true}
 use Rattle.row.proofs.Steps.VertexDeeds.{vdid}
 use Rattle.row.specs.Lists.Edges.{marked, transit, added, Prev, head, at, is_marked, InList, Mine, eview, einsert, eunlink, retag, EInner, Turns}
 use Rattle.row.specs.Machine.World.{World, Ask, addE, conE, Next, closed, opened, Hunt, hunt_from, stands_at, meets, took, Spot, Rest, Vert, FindU, FindV, LookE, ConE, Trial, goes, says, with_e, is_added, edges, graph}
@@ -100,7 +100,7 @@ module _ (W : World) (g : WGood W) (k l : ℤ) (u v : ℕ) (pr : Pair W k l u v)
       (pr, record { inside = c_mine a w; inner = λ z. n (cc); below = h }) e (inl refl) (e_looks b k l u v p (at c) c (W.e.next c))
   look_did true p c a q e e_settle (m_settle m w n f (inl h)) =
       let i = no_tail W.e u c (c_mine a w) (e_inner c (inr h)) in
-      rw (eqZ_yes (W.e.key c) l h) (by i (is_added (W.e.tag c)) refl)
+      rw (eq_z_yes (W.e.key c) l h) (by i (is_added (W.e.tag c)) refl)
     where
       by : InList W.e u c → (t : Bool) → is_added (W.e.tag c) ≡ t → Did W q (LookE true k l u v p c) (cond t (says W 4) (says W 7))
       by i true t =
@@ -108,7 +108,7 @@ module _ (W : World) (g : WGood W) (k l : ℤ) (u v : ℕ) (pr : Pair W k l u v)
           does_now 4 (deed_rest W g 0) refl (rw (e, live_u m, live_v m, edge_yes W k l (present_c c m i x (f x) h)))
       by i false t = does_out 7 (deed_rest W g 0) refl refl
   look_did true p c a q e e_settle (m_settle m w n f (inr h)) =
-      rw (eqZ_no (W.e.key c) l (λ z. <ℤ_irrefl {a = l} (rw z at h))) (by (leb 2048 W.e.used))
+      rw (eq_z_no (W.e.key c) l (λ z. <ℤ_irrefl {a = l} (rw z at h))) (by (leb 2048 W.e.used))
     where
       by : (t : Bool) → Did W q (LookE true k l u v p c) (cond t (says W 9) (goes (with_e W (einsert W.e u v l p)) (Trial k l u v W.e.used (hunt_from v))))
       by true = does_out 9 (deed_rest W g 0) refl refl
@@ -120,7 +120,7 @@ module _ (W : World) (g : WGood W) (k l : ℤ) (u v : ℕ) (pr : Pair W k l u v)
           e (inr (inl refl)) (e_tries true k l u v p c W.e.used)
   look_did false p c a q e e_settle (m_settle m w n f (inl h)) =
       let i = no_tail W.e u c (c_mine a w) (e_inner c (inr h)) in
-      rw (eqZ_yes (W.e.key c) l h) (by i (is_added (W.e.tag c)) refl)
+      rw (eq_z_yes (W.e.key c) l h) (by i (is_added (W.e.tag c)) refl)
     where
       by : InList W.e u c → (t : Bool) → is_added (W.e.tag c) ≡ t → Did W q (LookE false k l u v p c) (cond t (says (with_e W (retag W.e c marked)) 1) (says W 5))
       by i true t =
@@ -135,36 +135,36 @@ module _ (W : World) (g : WGood W) (k l : ℤ) (u v : ℕ) (pr : Pair W k l u v)
           ))
       by i false t = does_now 5 (deed_rest W g 0) refl (rw (e, live_u m, live_v m, absent_c c m.source i n h (λ z y. clash (cc (ap is_added z)))))
   look_did false p c a q e e_settle (m_settle m w n f (inr h)) =
-      rw (eqZ_no (W.e.key c) l (λ z. <ℤ_irrefl {a = l} (rw z at h)))
+      rw (eq_z_no (W.e.key c) l (λ z. <ℤ_irrefl {a = l} (rw z at h)))
       (does_now 5 (deed_rest W g 0) refl (rw (e, live_u m, live_v m, absent_gap a w m.source h)))
 
   con_did : (c : ℕ) → Mine W.e u (at c) → (q : Ask) → q ≡ conE k l → Did W q (ConE k l u v c) (con_e W k l u v c)
   con_did c i q e =
-      by (lt_z (W.e.key c) l) (W.v.marked u || W.v.marked v) (eqZ (W.e.key c) l) (is_added (W.e.tag c)) (eqb (W.e.target c) v) (is_marked (W.e.tag c))
+      by (lt_z (W.e.key c) l) (W.v.marked u || W.v.marked v) (eq_z (W.e.key c) l) (is_added (W.e.tag c)) (eqb (W.e.target c) v) (is_marked (W.e.tag c))
       refl refl refl refl refl refl
     where
       rest : Deed W W 0
       rest = deed_rest W g 0
 
-      by : (x d y t z m : Bool) → lt_z (W.e.key c) l ≡ x → (W.v.marked u || W.v.marked v) ≡ d → eqZ (W.e.key c) l ≡ y
+      by : (x d y t z m : Bool) → lt_z (W.e.key c) l ≡ x → (W.v.marked u || W.v.marked v) ≡ d → eq_z (W.e.key c) l ≡ y
           → is_added (W.e.tag c) ≡ t → eqb (W.e.target c) v ≡ z → is_marked (W.e.tag c) ≡ m
           → Did W q (ConE k l u v c) (cond x (goes W (ConE k l u v (W.e.next c))) (cond d (says W 8) (cond (y && (t && z)) (says W 1) (says W 8))))
       by true d y t z m e1 e2 e3 e4 e5 e6 =
-          let h = ltZ_true (W.e.key c) l e1 in
+          let h = lt_z_true (W.e.key c) l e1 in
           let n = e_inner c (inl h) in
           does_on (ConE k l u v (W.e.next c)) rest refl (pr, ((g.esound.sorted u).follows (at c) i (λ j. n (cc))).inside) e (inl refl) (e_walks k l u v c h n)
       by false true y t z m e1 e2 e3 e4 e5 e6 = does_past 8 rest refl refl (rw e (con_dead k l u v c (or_true (W.v.marked u) (W.v.marked v) e2) pr))
       by false false false t z m e1 e2 e3 e4 e5 e6 =
           does_past 8 rest refl refl (rw e (edge_miss k l u v c (calm W u v e2).source pr
-          (elim (not_below (W.e.key c) l e1) [ inl j ↦ clash (cc (eqZ_yes (W.e.key c) l j)) | inr j ↦ inr j ])))
+          (elim (not_below (W.e.key c) l e1) [ inl j ↦ clash (cc (eq_z_yes (W.e.key c) l j)) | inr j ↦ inr j ])))
       by false false true true true m e1 e2 e3 e4 e5 e6 =
-          let h = eqZ_eq (W.e.key c) l e3 in
+          let h = eq_z_eq (W.e.key c) l e3 in
           let x : W.v.marked (W.e.target c) ≡ false = rw (eqb-true (W.e.target c) v e5) (calm W u v e2).goal in
           does_now 1 rest refl (rw (e, edge_yes W k l (present_c c (calm W u v e2) (no_tail W.e u c i (e_inner c (inr h))) (added_is (W.e.tag c) e4) x h)))
       by false false true true false true e1 e2 e3 e4 e5 e6 =
-          does_past 8 rest refl refl (rw e (edge_miss k l u v c (calm W u v e2).source pr (inl (eqZ_eq (W.e.key c) l e3, e6))))
+          does_past 8 rest refl refl (rw e (edge_miss k l u v c (calm W u v e2).source pr (inl (eq_z_eq (W.e.key c) l e3, e6))))
       by false false true true false false e1 e2 e3 e4 e5 e6 =
-          let h = eqZ_eq (W.e.key c) l e3 in
+          let h = eq_z_eq (W.e.key c) l e3 in
           let j = no_tail W.e u c i (e_inner c (inr h)) in
           let w = g.ends c j.low j.high in
           does_now 8 rest refl (rw (
@@ -173,9 +173,9 @@ module _ (W : World) (g : WGood W) (k l : ℤ) (u v : ℕ) (pr : Pair W k l u v)
                 eqb-false (W.e.target c) v e5 (vunique W g l (W.e.target c) v w.target_high pr.goal.high b (calm W u v e2).goal (w.same_key ∙ (h ∙ sym pr.goal.holds)))),
           ))
       by false false true false z true e1 e2 e3 e4 e5 e6 =
-          does_past 8 rest refl refl (rw e (edge_miss k l u v c (calm W u v e2).source pr (inl (eqZ_eq (W.e.key c) l e3, e6))))
+          does_past 8 rest refl refl (rw e (edge_miss k l u v c (calm W u v e2).source pr (inl (eq_z_eq (W.e.key c) l e3, e6))))
       by false false true false z false e1 e2 e3 e4 e5 e6 =
-          let h = eqZ_eq (W.e.key c) l e3 in
+          let h = eq_z_eq (W.e.key c) l e3 in
           does_now 8 rest refl (rw (e, absent_c c (calm W u v e2).source (no_tail W.e u c i (e_inner c (inr h))) e6 h (λ a b. clash (cc (ap is_added a)))))
 
   trial_did : (x : ℕ) (h : Hunt) → Own W.e l u v x → HuntOk W u v x h → (q : Ask) → q ≡ addE k l → (z : Next) → TMeans W k l u v x h z

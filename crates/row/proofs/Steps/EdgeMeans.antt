@@ -9,7 +9,7 @@ use lib.Signed.{◌<ℤ◌, lt_z, <ℤ_irrefl}
 use borrow.Author.Tests.{eqb-true}
 use Rattle.row.proofs.Tests.{not_below, and_true, or_true, or_false, not_true}
 use Rattle.laws.proofs.Picks.{clash}
-use Rattle.row.proofs.Base.{ltZ_true, <ℤ-trans}
+use Rattle.row.proofs.Base.{lt_z_true, <ℤ-trans}
 use Rattle.row.specs.Lists.Edges.{Tag, marked, transit, added, Prev, is_marked, link, tag_at}
 use Rattle.row.specs.Machine.World.{World, is_added}
 use Rattle.row.specs.Machine.Moves.{ESeen, e_dead, e_again, e_passes, e_marks, e_onward, e_settle, elook}
@@ -63,9 +63,9 @@ emeans W l u v p c =
     by false false m t x y e1 e2 e3 e4 e5 e6 = m_again
     by false true true t x y e1 e2 e3 e4 e5 e6 = m_passes (lead e2) e3
     by false true false true true y e1 e2 e3 e4 e5 e6 = m_marks (lead e2) (added_is (W.e.tag c) e4) e5
-    by false true false true false true e1 e2 e3 e4 e5 e6 = m_onward (lead e2) e3 (ltZ_true (W.e.key c) l e6)
+    by false true false true false true e1 e2 e3 e4 e5 e6 = m_onward (lead e2) e3 (lt_z_true (W.e.key c) l e6)
     by false true false true false false e1 e2 e3 e4 e5 e6 = m_settle (calm W u v e1) (lead e2) e3 (λ z. e5) (not_below (W.e.key c) l e6)
-    by false true false false x true e1 e2 e3 e4 e5 e6 = m_onward (lead e2) e3 (ltZ_true (W.e.key c) l e6)
+    by false true false false x true e1 e2 e3 e4 e5 e6 = m_onward (lead e2) e3 (lt_z_true (W.e.key c) l e6)
     by false true false false x false e1 e2 e3 e4 e5 e6 = m_settle (calm W u v e1) (lead e2) e3 (λ z. absurd (not_added e4 z)) (not_below (W.e.key c) l e6)
 
 pub marked_is : (t : Tag) → is_marked t ≡ true → t ≡ marked

@@ -7,11 +7,11 @@ use native.Mathlib.Omega.{arith}
 use lib.IntN.{ℤ}
 use lib.Signed.{◌<ℤ◌, lt_z}
 use Rattle.laws.proofs.Picks.{clash}
-use Rattle.row.proofs.Base.{ltZ_true}
+use Rattle.row.proofs.Base.{lt_z_true}
 use Rattle.row.specs.Lists.Store.{Cat}
-use Rattle.catalogue.specs.Tests.{eqZ}
-use Rattle.laws.proofs.Rules.{eqZ_eq}
-use Rattle.row.proofs.Tests.{eqZ_yes, not_below}
+use Rattle.catalogue.specs.Tests.{eq_z}
+use Rattle.laws.proofs.Rules.{eq_z_eq}
+use Rattle.row.proofs.Tests.{eq_z_yes, not_below}
 use Rattle.row.proofs.Steps.VertexDeeds.{Legal, Missed, not_tail, not_head}
 use Rattle.row.specs.Lists.Edges.{head}
 use Rattle.row.specs.Machine.World.{World, Ask, Kind, adds, rems, cons, ask_of, FindU, FindV, in_row}
@@ -28,13 +28,13 @@ pub data VMeans (C : Cat) (k : ℤ) (c : ℕ) : VSeen → Type 0 where
   is_missing : Missed C k c → VMeans C k c missing
 
 pub vmeans : (C : Cat) (k : ℤ) (c : ℕ) → VMeans C k c (vlook C k c)
-vmeans C k c = by (lt_z (C.key c) k) (eqZ (C.key c) k) (C.marked c) refl refl refl
+vmeans C k c = by (lt_z (C.key c) k) (eq_z (C.key c) k) (C.marked c) refl refl refl
   where
-    by : (x y z : Bool) → lt_z (C.key c) k ≡ x → eqZ (C.key c) k ≡ y → C.marked c ≡ z → VMeans C k c (cond x lower (cond (y && not z) found missing))
-    by true y z f h m = is_lower (ltZ_true (C.key c) k f)
-    by false true true f h m = is_missing (inl (eqZ_eq (C.key c) k h, m))
-    by false true false f h m = is_found (eqZ_eq (C.key c) k h) m
-    by false false z f h m = is_missing (elim (not_below (C.key c) k f) [ inl j ↦ clash (cc (eqZ_yes (C.key c) k j)) | inr j ↦ inr j ])
+    by : (x y z : Bool) → lt_z (C.key c) k ≡ x → eq_z (C.key c) k ≡ y → C.marked c ≡ z → VMeans C k c (cond x lower (cond (y && not z) found missing))
+    by true y z f h m = is_lower (lt_z_true (C.key c) k f)
+    by false true true f h m = is_missing (inl (eq_z_eq (C.key c) k h, m))
+    by false true false f h m = is_found (eq_z_eq (C.key c) k h) m
+    by false false z f h m = is_missing (elim (not_below (C.key c) k f) [ inl j ↦ clash (cc (eq_z_yes (C.key c) k j)) | inr j ↦ inr j ])
 
 lost_row : (q : Kind) → in_row (lost q) ≡ true
 lost_row adds = refl

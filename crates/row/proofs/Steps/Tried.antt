@@ -8,7 +8,7 @@ use native.Mathlib.Omega.{arith}
 use lib.IntN.{ℤ}
 use lib.Dec.{eqb, leb}
 use lib.Signed.{lt_z}
-use Rattle.catalogue.specs.Tests.{eqZ}
+use Rattle.catalogue.specs.Tests.{eq_z}
 use Rattle.laws.proofs.Picks.{clash}
 use Rattle.row.proofs.Base.{upd_at, upd_other, same?}
 use Rattle.row.specs.Lists.Edges.{Tag, marked, transit, added, Prev, einsert, retag}
@@ -47,7 +47,7 @@ module _ (W : World) where
   con_edits k l u v c =
       either 0 (lt_z (W.e.key c) l) _ _ (idle refl refl refl)
       (either 0 (W.v.marked u || W.v.marked v) _ _ (idle refl refl refl)
-      (either 0 (eqZ (W.e.key c) l && (is_added (W.e.tag c) && eqb (W.e.target c) v)) _ _ (idle refl refl refl) (idle refl refl refl)))
+      (either 0 (eq_z (W.e.key c) l && (is_added (W.e.tag c) && eqb (W.e.target c) v)) _ _ (idle refl refl refl) (idle refl refl refl)))
 
   look_edits : (b : Bool) (k l : ℤ) (u v : ℕ) (p : Prev) (c : ℕ) (z : ESeen) → Edits W 0 (look_e W b k l u v p c z)
   look_edits b k l u v p c e_dead = idle refl refl refl
@@ -56,10 +56,10 @@ module _ (W : World) where
   look_edits b k l u v p c e_marks = turns c marked (λ z. clash (cc)) (inr refl) refl
   look_edits b k l u v p c e_onward = idle refl refl refl
   look_edits true k l u v p c e_settle =
-      either 0 (eqZ (W.e.key c) l) _ _ (either 0 (is_added (W.e.tag c)) _ _ (idle refl refl refl) (idle refl refl refl))
+      either 0 (eq_z (W.e.key c) l) _ _ (either 0 (is_added (W.e.tag c)) _ _ (idle refl refl refl) (idle refl refl refl))
       (either 0 (leb 2048 W.e.used) _ _ (idle refl refl refl) (inserts u v l p refl refl refl))
   look_edits false k l u v p c e_settle =
-      either 0 (eqZ (W.e.key c) l && is_added (W.e.tag c)) _ _ (turns c marked (λ z. clash (cc)) (inr refl) refl) (idle refl refl refl)
+      either 0 (eq_z (W.e.key c) l && is_added (W.e.tag c)) _ _ (turns c marked (λ z. clash (cc)) (inr refl) refl) (idle refl refl refl)
 
   trial_edits : (k l : ℤ) (u v x : ℕ) (h : Hunt) (o : Next) → TMeans W k l u v x h o → Edits W x o
   trial_edits k l u v x h o (t_dead d) = turns x marked (λ z. clash (cc)) (inl refl) refl

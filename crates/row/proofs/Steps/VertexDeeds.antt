@@ -10,17 +10,17 @@ use lib.Dec.{eqb, leb}
 use lib.Signed.{◌<ℤ◌, lt_z, <ℤ_irrefl, lt_z_yes}
 use borrow.Author.Tests.{eqb-true}
 use Rattle.laws.proofs.Picks.{clash}
-use Rattle.row.proofs.Base.{same?, <ℤ-trans, ltZ_true}
+use Rattle.row.proofs.Base.{same?, <ℤ-trans, lt_z_true}
 use Rattle.row.proofs.Lists.LinkLaws.{gap_dead}
 use Rattle.row.specs.Lists.Links.{Run, stop, go, Follows}
 use Rattle.row.proofs.Lists.Hindsight.{Moves}
 use Rattle.row.specs.Lists.Store.{Cat, view, insert, unlink, Inner, Gone, Stands, Step, rests, inserts, unlinks, marks, Good}
-use Rattle.catalogue.specs.Tests.{eqZ}
+use Rattle.catalogue.specs.Tests.{eq_z}
 use Rattle.catalogue.specs.Numbers.{least, greatest}
 use Rattle.row.specs.Machine.Vertices.{Request, addV, remV, conV, key_of, Place, Idle, AddV, RemV, ConV, Out, going, replies, Seen, again, passes, onward, settle, look, add, rem, step, begin, fits_key, fresh, live, sequential}
-use Rattle.laws.proofs.Rules.{eqZ_eq}
+use Rattle.laws.proofs.Rules.{eq_z_eq}
 use Rattle.row.proofs.Graphs.LiveSet.{Present, present_live, present_yes, present_no, live_unlink, live_insert, live_mark}
-use Rattle.row.proofs.Tests.{eqZ_yes, eqZ_no, not_below, and_true, not_true}
+use Rattle.row.proofs.Tests.{eq_z_yes, eq_z_no, not_below, and_true, not_true}
 
 -- ---- what is known of a place
 
@@ -101,7 +101,7 @@ means C k p c = by (eqb (C.next p) c && not (C.marked p)) (C.marked c) (lt_z (C.
         → Means C k p c (cond a (cond b passes (cond d onward settle)) again)
     by false b d e f g = m_again
     by true true d e f g = m_passes (leads' e) f
-    by true false true e f g = m_onward (leads' e) f (ltZ_true (C.key c) k g)
+    by true false true e f g = m_onward (leads' e) f (lt_z_true (C.key c) k g)
     by true false false e f g = m_settle (leads' e) f (not_below (C.key c) k g)
 
 module _ (C : Cat) (g : Good C) (k : ℤ) (l : Legal k) where
@@ -153,8 +153,8 @@ module _ (C : Cat) (g : Good C) (k : ℤ) (l : Legal k) where
   add_did p c a q e pl passes (m_passes w m) = on (AddV k p (C.next c)) (unlinks p (gone a w m)) (live_unlink C p) (l, passed a) e tt
   add_did p c a q e pl onward (m_onward w u h) = on (AddV k c (C.next c)) rests refl (l, moved a w h) e tt
   add_did p c a q e pl settle (m_settle w u (inl h)) =
-      rw (eqZ_yes (C.key c) k h) (now 2 (inr refl) rests (rw (e, present_yes (present a w u h))))
-  add_did p c a q e pl settle (m_settle w u (inr h)) = rw (eqZ_no (C.key c) k (apart h)) (by (leb 256 C.used))
+      rw (eq_z_yes (C.key c) k h) (now 2 (inr refl) rests (rw (e, present_yes (present a w u h))))
+  add_did p c a q e pl settle (m_settle w u (inr h)) = rw (eq_z_no (C.key c) k (apart h)) (by (leb 256 C.used))
     where
       by : (b : Bool) → VDid C q pl (cond b (replies C 9) (replies (insert C p k) 1))
       by true = full
@@ -167,30 +167,30 @@ module _ (C : Cat) (g : Good C) (k : ℤ) (l : Legal k) where
   rem_did p c a q e pl passes (m_passes w m) = on (RemV k p (C.next c)) (unlinks p (gone a w m)) (live_unlink C p) (l, passed a) e tt
   rem_did p c a q e pl onward (m_onward w u h) = on (RemV k c (C.next c)) rests refl (l, moved a w h) e tt
   rem_did p c a q e pl settle (m_settle w u (inl h)) =
-      rw (eqZ_yes (C.key c) k h)
+      rw (eq_z_yes (C.key c) k h)
       (now 1 (inl refl) (marks c (stands a w u h)) (rw (e, present_yes (present a w u h), live_mark C c g.sound (stands a w u h), h)))
   rem_did p c a q e pl settle (m_settle w u (inr h)) =
-      rw (eqZ_no (C.key c) k (apart h)) (now 2 (inr refl) rests (rw (e, absent a w h)))
+      rw (eq_z_no (C.key c) k (apart h)) (now 2 (inr refl) rests (rw (e, absent a w h)))
 
   -- ConV: a key that is there now is found now
   con_did : (c : ℕ) → c < C.used → (q : Request) → q ≡ conV k → VDid C q (ConV k c) (step C (ConV k c))
-  con_did c i q e = by (lt_z (C.key c) k) (eqZ (C.key c) k) (C.marked c) refl refl refl
+  con_did c i q e = by (lt_z (C.key c) k) (eq_z (C.key c) k) (C.marked c) refl refl refl
     where
-      by : (x y z : Bool) → lt_z (C.key c) k ≡ x → eqZ (C.key c) k ≡ y → C.marked c ≡ z
+      by : (x y z : Bool) → lt_z (C.key c) k ≡ x → eq_z (C.key c) k ≡ y → C.marked c ≡ z
           → VDid C q (ConV k c) (cond x (going C (ConV k (C.next c))) (cond (y && not z) (replies C 1) (replies C 2)))
       by true y z f h m =
-          let j = ltZ_true (C.key c) k f in
+          let j = lt_z_true (C.key c) k f in
           let n = not_tail {c = c} (inl j) in
           walks k c refl e j n (l, (g.sound.sorted.follows c i n).inside)
-      by false true true f h m = missed k c refl e (inl (eqZ_eq (C.key c) k h, m))
+      by false true true f h m = missed k c refl e (inl (eq_z_eq (C.key c) k h, m))
       by false true false f h m =
-          let j = eqZ_eq (C.key c) k h in
+          let j = eq_z_eq (C.key c) k h in
           let n = not_tail {c = c} (inr j) in
           let d = not_head {c = c} j in
           let v : Present C k = record { node = c; low = omega arith; high = i; plain = m; holds = j } in
           now 1 (inl refl) rests (rw (e, present_yes v))
       by false false z f h m =
-          missed k c refl e (elim (not_below (C.key c) k f) [ inl j ↦ clash (cc (eqZ_yes (C.key c) k j)) | inr j ↦ inr j ])
+          missed k c refl e (elim (not_below (C.key c) k f) [ inl j ↦ clash (cc (eq_z_yes (C.key c) k j)) | inr j ↦ inr j ])
 
 pub vdid : (C : Cat) → Good C → (q : Request) (pl : Place) → VOk C pl → VServes q pl → VDid C q pl (step C pl)
 vdid C g q Idle o v = on Idle rests refl tt tt tt
@@ -214,7 +214,7 @@ wants (ConV k c) = (conV k, refl)
 pub fits_is : (k : ℤ) → fits_key k ≡ true → Legal k
 fits_is k e =
     let z = and_true (lt_z least k) (lt_z k greatest) e in
-    record { low = ltZ_true least k z.0; high = ltZ_true k greatest z.1 }
+    record { low = lt_z_true least k z.0; high = lt_z_true k greatest z.1 }
 
 pub fresh_good : Good fresh
 fresh_good = record {

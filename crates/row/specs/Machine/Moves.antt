@@ -2,7 +2,7 @@
 use Rattle.std.specs.Prelude.{ℕ, Bool, true, false, cond, not, ◌&&◌, ◌||◌, List, [], ◌∷◌, ℤ, eqb, leb}
 use Rattle.std.specs.Int.Signed.{lt_z}
 use Rattle.row.specs.Lists.Store.{Cat}
-use Rattle.catalogue.specs.Tests.{eqZ}
+use Rattle.catalogue.specs.Tests.{eq_z}
 use Rattle.row.specs.Machine.Vertices.{Place, Idle, AddV, RemV, ConV, Out, step}
 use Rattle.row.specs.Lists.Edges.{Tag, marked, transit, added, Prev, head, at, is_marked, link, tag_at, einsert, eunlink, retag}
 use Rattle.row.specs.Machine.World.{World, Kind, rems, adds, cons, Opened, closed, opened, Hunt, hunt_from, stands_at, meets, took, Spot, Rest, Vert, FindU, FindV, LookE, ConE, Trial, Next, goes, says, with_e, is_added}
@@ -24,7 +24,7 @@ pub data VSeen : Type 0 where
   lower found missing : VSeen
 
 abbrev pub vlook : Cat → ℤ → ℕ → VSeen
-vlook C k c = cond (lt_z (C.key c) k) lower (cond (eqZ (C.key c) k && not (C.marked c)) found missing)
+vlook C k c = cond (lt_z (C.key c) k) lower (cond (eq_z (C.key c) k && not (C.marked c)) found missing)
 
 abbrev pub lost : Kind → ℕ
 lost adds = 3
@@ -52,7 +52,7 @@ abbrev pub con_e : World → ℤ → ℤ → ℕ → ℕ → ℕ → Next
 con_e W k l u v c =
     cond (lt_z (W.e.key c) l) (goes W (ConE k l u v (W.e.next c)))
     (cond (W.v.marked u || W.v.marked v) (says W 8)
-    (cond (eqZ (W.e.key c) l && (is_added (W.e.tag c) && eqb (W.e.target c) v)) (says W 1) (says W 8)))
+    (cond (eq_z (W.e.key c) l && (is_added (W.e.tag c) && eqb (W.e.target c) v)) (says W 1) (says W 8)))
 
 -- ---- AddE, RemE
 
@@ -70,11 +70,11 @@ elook W l u v p c =
 
 abbrev pub settle_add : World → ℤ → ℤ → ℕ → ℕ → Prev → ℕ → Next
 settle_add W k l u v p c =
-    cond (eqZ (W.e.key c) l) (cond (is_added (W.e.tag c)) (says W 4) (says W 7))
+    cond (eq_z (W.e.key c) l) (cond (is_added (W.e.tag c)) (says W 4) (says W 7))
     (cond (leb 2048 W.e.used) (says W 9) (goes (with_e W (einsert W.e u v l p)) (Trial k l u v W.e.used (hunt_from v))))
 
 abbrev pub settle_rem : World → ℤ → ℕ → Next
-settle_rem W l c = cond (eqZ (W.e.key c) l && is_added (W.e.tag c)) (says (with_e W (retag W.e c marked)) 1) (says W 5)
+settle_rem W l c = cond (eq_z (W.e.key c) l && is_added (W.e.tag c)) (says (with_e W (retag W.e c marked)) 1) (says W 5)
 
 abbrev pub settles : Bool → World → ℤ → ℤ → ℕ → ℕ → Prev → ℕ → Next
 settles true W k l u v p c = settle_add W k l u v p c

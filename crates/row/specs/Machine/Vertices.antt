@@ -3,7 +3,7 @@
 use Rattle.std.specs.Prelude.{ℕ, zero, suc, Bool, true, false, cond, not, ◌&&◌, ℤ, eqb, leb}
 use Rattle.std.proofs.Math.Option.{Option, none, some}
 use Rattle.std.specs.Int.Signed.{lt_z}
-use Rattle.catalogue.specs.Tests.{eqZ}
+use Rattle.catalogue.specs.Tests.{eq_z}
 use Rattle.catalogue.specs.Numbers.{least, greatest}
 use Rattle.row.specs.Lists.Store.{Cat, insert, unlink, mark}
 
@@ -48,13 +48,13 @@ abbrev pub add : Cat → ℤ → ℕ → ℕ → Seen → Out
 add C k p c again = going C (AddV k 0 (C.next 0))
 add C k p c passes = going (unlink C p) (AddV k p (C.next c))
 add C k p c onward = going C (AddV k c (C.next c))
-add C k p c settle = cond (eqZ (C.key c) k) (replies C 2) (cond (leb 256 C.used) (replies C 9) (replies (insert C p k) 1))
+add C k p c settle = cond (eq_z (C.key c) k) (replies C 2) (cond (leb 256 C.used) (replies C 9) (replies (insert C p k) 1))
 
 abbrev pub rem : Cat → ℤ → ℕ → ℕ → Seen → Out
 rem C k p c again = going C (RemV k 0 (C.next 0))
 rem C k p c passes = going (unlink C p) (RemV k p (C.next c))
 rem C k p c onward = going C (RemV k c (C.next c))
-rem C k p c settle = cond (eqZ (C.key c) k) (replies (mark C c) 1) (replies C 2)
+rem C k p c settle = cond (eq_z (C.key c) k) (replies (mark C c) 1) (replies C 2)
 
 abbrev pub step : Cat → Place → Out
 step C Idle = going C Idle
@@ -62,7 +62,7 @@ step C (AddV k p c) = add C k p c (look C k p c)
 step C (RemV k p c) = rem C k p c (look C k p c)
 step C (ConV k c) =
     cond (lt_z (C.key c) k) (going C (ConV k (C.next c)))
-    (cond (eqZ (C.key c) k && not (C.marked c)) (replies C 1) (replies C 2))
+    (cond (eq_z (C.key c) k && not (C.marked c)) (replies C 1) (replies C 2))
 
 -- ---- taking up
 
@@ -84,7 +84,7 @@ fresh = record { next = λ x. cond (eqb x 0) 1 0; marked = λ x. false; key = λ
 -- ---- the live set, and a call alone
 
 abbrev pub is_live : (ℕ → Bool) → (ℕ → ℤ) → ℤ → ℕ → Bool
-is_live marked key k x = leb 2 x && (not (marked x) && eqZ (key x) k)
+is_live marked key k x = leb 2 x && (not (marked x) && eq_z (key x) k)
 
 -- an unmarked node below n has key k
 unfoldable pub has : (ℕ → Bool) → (ℕ → ℤ) → ℤ → ℕ → Bool
@@ -95,7 +95,7 @@ abbrev pub live : Cat → ℤ → Bool
 live C k = has C.marked C.key k C.used
 
 abbrev pub put : (ℤ → Bool) → ℤ → Bool → ℤ → Bool
-put g k b j = cond (eqZ j k) b (g j)
+put g k b j = cond (eq_z j k) b (g j)
 
 abbrev pub sequential : (ℤ → Bool) → Request → ℕ × (ℤ → Bool)
 sequential g (addV k) = cond (g k) (2, g) (1, put g k true)

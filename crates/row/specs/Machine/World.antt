@@ -3,7 +3,7 @@
 use Rattle.std.specs.Prelude.{ℕ, zero, suc, ◌≤◌, ◌<◌, Bool, true, false, cond, not, ◌&&◌, ◌||◌, ◌≡◌, List, [], ◌∷◌, ◌++◌, ℤ, eqb, leb}
 use Rattle.std.proofs.Math.Option.{Option, none, some}
 use Rattle.row.specs.Lists.Store.{Cat}
-use Rattle.catalogue.specs.Tests.{eqZ, upd}
+use Rattle.catalogue.specs.Tests.{eq_z, upd}
 use Rattle.row.specs.Machine.Vertices.{Request, Place, live, sequential}
 use Rattle.row.specs.Lists.Edges.{Tag, transit, marked, added, Prev, Edges}
 
@@ -93,7 +93,7 @@ pub record Graph : Type 0 where
 
 abbrev pub is_edge : (ℕ → Bool) → (ℕ → ℤ) → (ℕ → Tag) → (ℕ → ℕ) → (ℕ → ℕ) → (ℕ → ℤ) → ℤ → ℤ → ℕ → Bool
 is_edge vm vk tag owner target ek k l x =
-    leb 1 x && (is_added (tag x) && (not (vm (owner x)) && (not (vm (target x)) && (eqZ (vk (owner x)) k && eqZ (ek x) l))))
+    leb 1 x && (is_added (tag x) && (not (vm (owner x)) && (not (vm (target x)) && (eq_z (vk (owner x)) k && eq_z (ek x) l))))
 
 unfoldable pub has_edge : (ℕ → Bool) → (ℕ → ℤ) → (ℕ → Tag) → (ℕ → ℕ) → (ℕ → ℕ) → (ℕ → ℤ) → ℤ → ℤ → ℕ → Bool
 has_edge vm vk tag owner target ek k l zero = false
@@ -106,7 +106,7 @@ abbrev pub graph : World → Graph
 graph W = record { v = live W.v; e = edges W }
 
 abbrev pub put_edge : (ℤ → ℤ → Bool) → ℤ → ℤ → Bool → ℤ → ℤ → Bool
-put_edge g k l b x y = cond (eqZ x k && eqZ y l) b (g x y)
+put_edge g k l b x y = cond (eq_z x k && eq_z y l) b (g x y)
 
 -- the edges with both ends still there
 abbrev pub between : (ℤ → Bool) → (ℤ → ℤ → Bool) → ℤ → ℤ → Bool

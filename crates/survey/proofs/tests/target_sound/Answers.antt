@@ -1,12 +1,12 @@
 -- Each way out is a case of the definition.
-use Rattle.survey.proofs.Told.{met_on, eqZ_both_true, eqZ_both_false}
+use Rattle.survey.proofs.Told.{met_on, eq_z_both_true, eq_z_both_false}
 use Rattle.laws.proofs.Ways.{on_true, on_false, vertex_at, vertex_torn}
 use borrow.Author.Rules.{sfits_of}
 use borrow.Author.Tests.{eq-eqb, ne_eqb}
 use Rattle.survey.proofs.tests.target_sound.Goals as goal
 
 -- the reads and the tests on the way
-ruleset target-ways = (on_true, on_false, eqZ_both_true, eqZ_both_false, vertex_at, vertex_torn, eq-eqb, ne_eqb, met_on, sfits_of)
+ruleset target-ways = (on_true, on_false, eq_z_both_true, eq_z_both_false, vertex_at, vertex_torn, eq-eqb, ne_eqb, met_on, sfits_of)
 
 pub returns-then-tag-eq1 : goal.returns-then-tag-eq1
 returns-then-tag-eq1 c = search target-ways
