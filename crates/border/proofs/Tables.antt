@@ -4,18 +4,26 @@ use mathlib.Core.List.{List, [], ◌∷◌, map}
 use mathlib.Core.Path.{◌≡◌, refl, sym, ◌∙◌, ap}
 use native.Mathlib.Omega.{arith}
 use lib.ListN.{length, get_or}
+use mir.Val.{Val}
 use prog.Memory.{size}
+use denote.Laws.{Is}
 use denote.Memory.{lone}
+use denote.Struct.Laws as LL
 use Rattle.catalogue.specs.declared.workers.Worker.{Worker}
 use Rattle.catalogue.specs.declared.workers.Table.{Table}
 use Rattle.border.specs.Kept.{worker_in, table_in, record_at, empty, table_size}
 use Rattle.border.specs.declared.kept.Kept.{Kept}
 use Rattle.border.specs.declared.kept.Record.{Record}
 use Rattle.border.specs.contracts.kept.Kept as K
+use Rattle.border.proofs.kept.Kept.TheLaws as K'
 
 -- the stated size is that of the table's layout
 pub table_sized : table_size ≡ size (lone (K.the_row).mir)
 table_sized = refl
+
+-- a table that is there has eight records
+pub eight_records : (t : Kept) (v : Val) → Is K.the_row t (v ∷ []) → length t.records ≡ 8
+eight_records t v is = (LL.owed K.the_type K'.the_laws t (v ∷ []) is).1.0.1.0.1
 
 -- so many members of a list, from a number on
 abbrev members_from : {A : Type 0} → A → List A → ℕ → ℕ → List A
