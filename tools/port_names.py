@@ -31,7 +31,7 @@ FACTS = [
 ]
 
 # Words that had a capital in them, as the kit's `ltZ` is `lt_z` and its `getD` is `get_or` today.
-WORDS = {"eqZ": "eq_z", "get_d_of": "get_or_of", "get_d_set": "get_or_set", "get_d_front": "get_or_front"}
+WORDS = {"Goes_on": "GoesOn", "eqZ": "eq_z", "get_d_of": "get_or_of", "get_d_set": "get_or_set", "get_d_front": "get_or_front"}
 CAPITALS = [("eqZ_", "eq_z_"), ("ltZ_", "lt_z_"), ("getD_", "get_or_"), ("addE_", "add_e_"), ("addV_", "add_v_"), ("remE_", "rem_e_"), ("remV_", "rem_v_"), ("conE_", "con_e_"), ("conV_", "con_v_")]
 
 

@@ -149,13 +149,13 @@ module _ (s : ℕ → Choice) (honest : Honest WGood s) where
   one_more {a} {n} m d i h l = elim (same? i n) [ inl e ↦ rw e d | inr k ↦ m i h (omega arith) ]
 
   -- the event n is no sweep, or the worker rests
-  abbrev Goes_on : ℕ → Spot → Type 0
-  Goes_on n pl = Both (wd n) (wd (suc n)) ⊎ (pl ≡ Rest)
+  abbrev GoesOn : ℕ → Spot → Type 0
+  GoesOn n pl = Both (wd n) (wd (suc n)) ⊎ (pl ≡ Rest)
 
   rests_not : {A : Type 0} (pl : Spot) → pl ≡ Rest → resting pl ≡ false → A
   rests_not pl e h = clash (cc (ap resting e))
 
-  wait : {n : ℕ} {b : Began} {pl : Spot} → Goes_on n pl → Asked n b pl → Asked (suc n) b pl
+  wait : {n : ℕ} {b : Began} {pl : Spot} → GoesOn n pl → Asked n b pl → Asked (suc n) b pl
   wait {n} {b} {pl} d a = record {
     early = omega (arith, a.early);
     serves = a.serves;
@@ -237,7 +237,7 @@ module _ (s : ℕ → Choice) (honest : Honest WGood s) where
   itself : (n v : ℕ) → Both (wd n) (wd (suc n)) → Asked n (began s v n) ((conf s n).at v) → Asked (suc n) (began s v n) (move (wd n) ((conf s n).at v)).spot
   itself n v x a = stepped n (began s v n) ((conf s n).at v) (move (wd n) ((conf s n).at v)) x a (done n v a)
 
-  next : (n w : ℕ) (ch : Choice) → s n ≡ ch → ((v : ℕ) → Goes_on n ((conf s n).at v)) → (((W : World) → ch ≡ sweeps W → ⊥) → Both (wd n) (wd (suc n)))
+  next : (n w : ℕ) (ch : Choice) → s n ≡ ch → ((v : ℕ) → GoesOn n ((conf s n).at v)) → (((W : World) → ch ≡ sweeps W → ⊥) → Both (wd n) (wd (suc n)))
       → Asked n (began s w n) ((conf s n).at w)
       → Asked (suc n) (since (opens (conf s n) ch w) (suc n) (began s w n)) ((act (conf s n) ch).at w)
   next n w (steps v) e x y a =
@@ -265,7 +265,7 @@ module _ (s : ℕ → Choice) (honest : Honest WGood s) where
       by true = wait (x w) a
       by false = wait (x w) a
 
-  goes_on : (n v : ℕ) → Goes_on n ((conf s n).at v)
+  goes_on : (n v : ℕ) → GoesOn n ((conf s n).at v)
   goes_on n v = elim (moves s honest n) [ inl b ↦ inl b | inr r ↦ inr (r v) ]
 
   asked : (n w : ℕ) → Asked n (began s w n) ((conf s n).at w)
