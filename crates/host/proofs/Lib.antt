@@ -1,4 +1,4 @@
--- Laws of the one record that a call moves, of a record in memory, and what the walks share.
+-- Laws of the one record that a call moves, of a table, and of one record of it in memory.
 pub mod Cells
 pub mod Moves
 pub mod Starting

@@ -110,6 +110,7 @@ module _ {G Req Rep : Type 0} (does : G → Req → Rep → G → Type 0) (count
   before zero = zero
   before (suc s) = s
 
+  -- `late` at the moment of the event itself; apart, since with `block` open its equation is not rewritten
   late_now : (s j : ℕ) → s ≡ j → R (H.live (suc s)) (H.live s) (block (suc s) j ++ pick (suc s) j (ev j))
   late_now s j q = rw q (runs_append does (early j j (omega arith)) (pick_now j (ev j)))
 
