@@ -5,4 +5,3 @@ pub mod Tables
 pub mod Laid
 pub mod Agreement
 pub mod Agrees
-pub mod Slices

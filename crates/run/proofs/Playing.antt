@@ -46,14 +46,6 @@ pub held_sized : (keys : List ℤ) (words : List ℕ) (r : Running) → Hold key
 held_sized keys words r h = record { keyed = ap length h.0 ∙ length_keys r.catalogue; worded = ap length h.1 ∙ length_words r.catalogue }
 
 -- so that its length is unchanged
-module _ (text : List ℕ) (c : Checked) (keys keys₀ : List ℤ) (words words₀ l : List ℕ) (s : State) (place position : ℕ)
-    (p : Playing text c keys words l s place position) (h : Hold keys₀ words₀ fresh) where
-  pub same_keys : length keys ≡ length keys₀
-  same_keys = (held_sized keys words p.running p.stands.held).keyed ∙ sym (ap length h.0 ∙ length_keys fresh)
-
-  pub same_words : length words ≡ length words₀
-  same_words = (held_sized keys words p.running p.stands.held).worded ∙ sym (ap length h.1 ∙ length_words fresh)
-
 module _ (text : List ℕ) (c : Checked) (k : IsScript text c) where
   -- ---- the start
 

@@ -8,7 +8,6 @@ use native.Mathlib.Omega.{arith}
 use borrow.Author.Tests.{le-leb, lt-leb}
 use lib.IntN.{ℤ}
 use lib.ListN.{length, take, length-take}
-use lib.Seq.{length-take-le}
 use Rattle.catalogue.specs.Catalogue.{Catalogue}
 use Rattle.catalogue.specs.Lent.{Memory, memory_of, view, lay, sized, output_fits, output_size, lent_run}
 use Rattle.catalogue.specs.Listing.{ReplyLine, result_text, written}
@@ -37,10 +36,6 @@ use Rattle.run.specs.Promised.{RunsScript}
 use Rattle.run.specs.Stands.{Stands}
 use Rattle.run.specs.declared.states.State.{State}
 use Rattle.run.proofs.Playing.{held_sized}
-
--- the lines of the replies are a part of their buffer
-pub prefix : (n : ℕ) (l : List ℕ) → n ≤ length l → n ≡ length (take n l)
-prefix n l h = sym (length-take-le n l h)
 
 -- ---- a listing after a script is never refused
 
@@ -92,9 +87,6 @@ module _ (text : List ℕ) (c : Checked) (k : IsScript text c) (keys : List ℤ)
 module _ (text : List ℕ) (v : Verdict) (c : Checked) (a : Answers text v c) where
   pub bad_answer : (n : ℕ) → v ≡ verdict.Bad n → read_script text ≡ bad n
   bad_answer n e = subst (λ (v : Verdict). Answers text v c) e a
-
-  pub good_answer : v ≡ verdict.Good → IsScript text c
-  good_answer e = subst (λ (v : Verdict). Answers text v c) e a
 
 module _ (text : List ℕ) (m : Memory) (l : List ℕ) where
   pub left_unsized : sized m ≡ false → RunsScript text m l (Refused refusal.Room) m.keys m.words l

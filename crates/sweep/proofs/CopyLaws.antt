@@ -1,4 +1,4 @@
--- One node made anew, by the memory after each callee and the result of the test.
+-- An edge made anew or passed over, by the memory after each callee and the result of the test.
 use Prim.Native.Nat.{ℕ, ◌+◌, ◌≤◌, ◌<◌}
 use mathlib.Core.Bool.{Bool, true, false}
 use mathlib.Core.Path.{◌≡◌, refl, sym, ap, ◌∙◌}
@@ -11,12 +11,7 @@ use lib.IntN.{ℤ}
 use Rattle.catalogue.specs.Lent.{Memory}
 use Rattle.survey.proofs.Lives.{live_in_pool}
 use Rattle.sweep.specs.declared.copies.Tip.{Tip}
-use Rattle.sweep.specs.Built.{committed, vertex_write, with_edge, copied, tip_after}
-
--- A key comes to a callee through its bits, so there it is another number, equal to it.
-pub vertex_copied : (m m' : Memory) (n : ℕ) (key key' read : ℤ) → key' ≡ key → key ≡ read → m' ≡ committed m (vertex_write n key')
-    → m' ≡ committed m (vertex_write n read)
-vertex_copied m m' n key key' read same here made = made ∙ ap (λ k. committed m (vertex_write n k)) (same ∙ here)
+use Rattle.sweep.specs.Built.{with_edge, copied, tip_after}
 
 -- an edge, by the result r of its test
 module _ (t r : Bool) (q : r ≡ t) (tip : Tip) where
@@ -53,7 +48,5 @@ module _ (t r : Bool) (q : r ≡ t) (tip : Tip) where
     pub tip_kept : tip ≡ tip_after t tip
     unfolding tip_after
     tip_kept = rw (sym q ∙ h) refl
-
-pub ruleset vertex_copy = (vertex_copied, to_z-of_z, rules)
 
 pub ruleset edge_copy = (edge_copied, tip_moved, tip_room, tip_fits, edge_passed, tip_kept, live_in_pool, to_z-of_z, rules)

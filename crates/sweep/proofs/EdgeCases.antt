@@ -88,20 +88,3 @@ module _ (next : ℕ → ℕ) (end : ℕ) (test : ℕ → Bool) (fuel x : ℕ) w
           ∙ ap (built keys targets tip.source tip.n tip.p m) (sym kept_is)
 
 pub ruleset edge_cases = (edges_none, edges_end, none_counted, end_counted, edges_on, counted_on, room_first, room_on, below_on, rules)
-
--- the list of a vertex, from its first edge as it was read
-module _ (next : ℕ → ℕ) (end : ℕ) (test : ℕ → Bool) (first x n : ℕ) (e : first ≡ x) where
-  abbrev whole : ℕ → List ℕ
-  whole = kept_from next end test 2048
-
-  pub list_built : (keys : ℕ → ℤ) (targets : ℕ → ℕ) (source : ℕ) (m m' : Memory) → m' ≡ with_edges keys targets source (whole first) n 0 m
-      → m' ≡ with_edges keys targets source (whole x) n 0 m
-  list_built keys targets source m m' made = made ∙ ap (λ k. with_edges keys targets source (whole k) n 0 m) e
-
-  pub list_counted : (last : ℕ) → last ≡ n + length (whole first) → last ≡ n + length (whole x)
-  list_counted last counted = counted ∙ ap (λ k. n + length (whole k)) e
-
-  pub list_within : n + length (whole x) ≤ 2047 → n + length (whole first) ≤ 2047
-  list_within room = rw e room
-
-pub ruleset own_list = (list_built, list_counted, list_within, rules)
