@@ -1,6 +1,6 @@
 -- A request stepped once more comes to what it came to before; one that is answered, or has no steps left, comes to
 -- what it is.
-use Rattle.std.proofs.Common.{◌≡◌, ℕ, zero, suc, ◌-◌, ◌<◌, ◌≤◌, true, false, eqb, ◌⊎◌, List, ℤ, sym, refl, ◌∙◌, inl, inr, arith}
+use Rattle.std.proofs.Common.{◌≡◌, ℕ, zero, suc, ◌+◌, ◌-◌, ◌<◌, ◌≤◌, true, false, eqb, List, ℤ, sym, refl, ap, ◌∙◌, eq-eqb, ne_eqb, arith}
 use native.Mathlib.Numerals.{unary_clauses}
 use Rattle.catalogue.specs.Answers.{told}
 use Rattle.catalogue.specs.Lent.{Memory, memory_of, lent_take_up, lent_step}
@@ -8,7 +8,8 @@ use Rattle.catalogue.specs.Workers.{idle_table}
 use Rattle.catalogue.specs.declared.answers.Outcome.{Outcome}
 use Rattle.catalogue.specs.declared.workers.Request.{Request}
 use Rattle.catalogue.specs.declared.workers.Table.{Table}
-use Rattle.asking.specs.Asked.{Standing, Ended, next, ended, ask_on, asked}
+use Rattle.asking.specs.Asked.{Standing, Ended, next, ended, ask_on, asked, Performs}
+use Rattle.asking.specs.declared.perform.Performed.{Performed}
 
 -- a request that stands at these
 abbrev pub At : List ℤ → List ℕ → Table → ℕ → Standing
@@ -26,12 +27,13 @@ unfolding ask_on
 one_more zero s h e = absurd (omega arith)
 one_more (suc left) s h e = rw (e, ask_on) (simp unary_clauses)
 
-pub ask_again : (left : ℕ) (keys keys' : List ℤ) (words words' : List ℕ) (t : Table) (r : Outcome) (number number' : ℕ) (E : Ended)
-    → ask_on left (At keys words t number) ≡ E → 0 < left → eqb number 0 ≡ true → r ≡ (lent_step (memory_of keys words) t 0).outcome
+pub ask_again : (done : ℕ) (keys keys' : List ℤ) (words words' : List ℕ) (t : Table) (r : Outcome) (number number' : ℕ) (E : Ended)
+    → ask_on (10000 - done) (At keys words t number) ≡ E → done < 10000 → number ≡ 0 → r ≡ (lent_step (memory_of keys words) t 0).outcome
     → keys' ≡ (lent_step (memory_of keys words) t 0).memory.keys → words' ≡ (lent_step (memory_of keys words) t 0).memory.words
-    → number' ≡ (told r.answer).number → ask_on (left - 1) (At keys' words' r.table number') ≡ E
-ask_again left keys keys' words words' t r number number' E e h z o ks ws n =
-    rw (n, o, ks, ws) (sym (one_more left (At keys words t number) h z) ∙ e)
+    → number' ≡ (told r.answer).number → ask_on (10000 - (done + 1)) (At keys' words' r.table number') ≡ E
+ask_again done keys keys' words words' t r number number' E e h z o ks ws n =
+    let fewer : 10000 - (done + 1) ≡ 10000 - done - 1 = omega arith in
+    rw (fewer, n, o, ks, ws) (sym (one_more (10000 - done) (At keys words t number) (omega arith) (eq-eqb _ _ z)) ∙ e)
 
 answered : (left : ℕ) (s : Standing) → eqb s.number 0 ≡ false → ask_on left s ≡ ended left s
 unfolding ask_on
@@ -44,6 +46,18 @@ spent zero s h = refl
 spent (suc left) s h = absurd (omega arith)
 
 -- keys passed on mean what they meant
-pub ask_ends : (left : ℕ) (s : Standing) (m : Memory) {q q' : Request} → ask_on left s ≡ asked m q' → q' ≡ q → (eqb s.number 0 ≡ false) ⊎ (left ≤ 0) → ended left s ≡ asked m q
-ask_ends left s m e p (inl h) = rw p at (sym (answered left s h) ∙ e)
-ask_ends left s m e p (inr h) = rw p at (sym (spent left s h) ∙ e)
+module _ (done : ℕ) (keys : List ℤ) (words : List ℕ) (t : Table) (number : ℕ) (m : Memory) {q q' : Request}
+    (e : ask_on (10000 - done) (At keys words t number) ≡ asked m q') (p : q' ≡ q) where
+  abbrev stands : Standing
+  stands = At keys words t number
+
+  performs : (steps : ℕ) → steps ≡ 10000 - (10000 - done) → ended (10000 - done) stands ≡ asked m q → Performs m q (record { number = number; steps = steps }) keys words
+  performs steps same f =
+      let told : ℕ → Performed = λ n. record { number = number; steps = n } in
+      (ap told same ∙ ap (λ (x : Ended). x.performed) f, (ap (λ (x : Ended). x.memory.keys) f, ap (λ (x : Ended). x.memory.words) f))
+
+  pub ask_answered : done < 10000 → (number ≡ 0 → ⊥) → Performs m q (record { number = number; steps = done }) keys words
+  ask_answered h some = performs done (omega arith) (rw p at (sym (answered (10000 - done) stands (ne_eqb _ _ some)) ∙ e))
+
+  pub ask_spent : 10000 ≤ done → Performs m q (record { number = number; steps = 10000 }) keys words
+  ask_spent h = performs 10000 (omega arith) (rw p at (sym (spent (10000 - done) stands (omega arith)) ∙ e))

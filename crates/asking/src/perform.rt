@@ -8,7 +8,7 @@ ghost use Rattle.asking.specs.Asked.{Performs};
 use calls::refusal::refusal_number;
 use calls::step::step;
 use calls::take_up::take_up;
-use catalogue::answers::{Answer, Made};
+use catalogue::answers::{Answer, Refusal};
 use catalogue::workers::{Pair, Request};
 use workers::table::idle_table;
 
@@ -23,22 +23,22 @@ pub struct Performed {
     pub steps: u32,
 }
 
-fn answer_number(answer: Answer) -> u8
+fn answer_number(answer: Result<Answer, Refusal>) -> u8
     ensures { result ≡ (told answer).number }
 {
     match answer {
-        Answer::Going { met: _ } => 0,
-        Answer::Reply { number } => number,
-        Answer::Refused { refusal } => refusal_number(refusal),
+        Ok(Answer::Going { met: _ }) => 0,
+        Ok(Answer::Reply { number }) => number,
+        Err(refusal) => refusal_number(refusal),
     }
 }
 
-pub fn made_number(made: Made) -> u8
+pub fn made_number(made: Result<(), Refusal>) -> u8
     ensures { result ≡ made_number made }
 {
     match made {
-        Made::Done => 0,
-        Made::Refused { refusal } => refusal_number(refusal),
+        Ok(()) => 0,
+        Err(refusal) => refusal_number(refusal),
     }
 }
 
@@ -53,14 +53,17 @@ pub fn perform(keys: &mut [i32], words: &mut [u32], code: u32, k: i32, l: i32) -
     let mut table = taken.table;
     let answer = taken.answer;
     let mut number = answer_number(answer);
-    let mut left = MOST_STEPS;
-    while left > 0 && number == 0 {
+    for steps in 0..MOST_STEPS {
+        if number != 0 {
+            return Performed { number, steps };
+        }
         let outcome = step(keys, words, table, 0);
         table = outcome.table;
         let next = outcome.answer;
         number = answer_number(next);
-        left -= 1;
     }
-    let steps = MOST_STEPS - left;
-    Performed { number, steps }
+    Performed {
+        number,
+        steps: MOST_STEPS,
+    }
 }

@@ -1,6 +1,6 @@
-// Printing: a number and what follows it, a tally, a listing.
+// Printing: a number and what follows it, a tally, a listing. By the kit's `io`: std's way rests on two more functions
+// of C, and its errors would end a program with status 1.
 use crate::tally::Tally;
-use catalogue::listing::Listed;
 use listing::call::listing;
 
 fn print_number(n: u32, after: u8) {
@@ -22,8 +22,7 @@ pub fn print_tally(tally: Tally) {
 // A refused listing prints nothing, which the stored output would show.
 pub fn print_listing(keys: &[i32], words: &[u32]) {
     let mut output = io::large_buffer();
-    let listed = listing(keys, words, &mut output);
-    let Listed::Written { bytes } = listed else {
+    let Ok(bytes) = listing(keys, words, &mut output) else {
         return;
     };
     let n = io::count(bytes as isize, &output);

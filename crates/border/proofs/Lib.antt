@@ -1,4 +1,3 @@
 -- Laws of places, records, tables and answers as numbers.
-pub mod Packed
 pub mod Places
 pub mod Tables

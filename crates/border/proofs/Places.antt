@@ -1,38 +1,10 @@
--- A place written down, by the constructor that the code took it apart into; and that what is read back is what was
--- written.
-use Prim.Native.Nat.{ℕ}
-use mathlib.Core.Path.{◌≡◌, refl, sym, ◌∙◌, ap}
-use mir.Facts.{to_z-of_z}
-use borrow.Author.Rules.{sfits_of}
-use lib.IntN.{ℤ}
-use Rattle.catalogue.specs.declared.workers.Ends.{Ends}
-use Rattle.catalogue.specs.declared.workers.Prev.{Prev}
+-- What is read back is what was written down.
+use mathlib.Core.Path.{◌≡◌, refl, ap}
 use Rattle.catalogue.specs.declared.workers.Prev.TheVariants.{First, Edge}
 use Rattle.catalogue.specs.declared.workers.Place.{Place}
 use Rattle.catalogue.specs.declared.workers.Place.TheVariants.{Idle, AddV, RemV, ConV, AddEFindU, RemEFindU, ConEFindU, AddEFindV, RemEFindV, ConEFindV, AddE, RemE, ConE, Trial, TrialOpen}
 use Rattle.catalogue.specs.declared.workers.Worker.{Worker}
-use Rattle.border.specs.Kept.{prev_in, edge_place_in, finding_place_in, place_in, at_kind, alone, vertex_spot, edge_spot, spot_of, worker_in, record_of}
-use Rattle.border.specs.declared.kept.Spot.{Spot}
-use Rattle.border.specs.declared.kept.Record.{Record}
-
-pub spot_at : (p s : Place) (x : Spot) → p ≡ s → x ≡ spot_of s → x ≡ spot_of p
-spot_at p s x e h = h ∙ ap spot_of (sym e)
-
-pub edge_spot_at : (kind : ℕ) (ends : Ends) (p s : Prev) (c : ℕ) (x : Spot) → p ≡ s → x ≡ edge_spot kind ends s c → x ≡ edge_spot kind ends p c
-edge_spot_at kind ends p s c x e h = h ∙ ap (λ p. edge_spot kind ends p c) (sym e)
-
--- a key written into a pair means the same
-pub vertex_spot_arg : (kind : ℕ) (k k' : ℤ) (u v : ℕ) (r : Spot) → r ≡ vertex_spot kind (alone k') u v → k' ≡ k → r ≡ vertex_spot kind (alone k) u v
-vertex_spot_arg kind k k' u v r h e = h ∙ ap (λ k. vertex_spot kind (alone k) u v) e
-
--- a record made of its parts
-pub worker_of_parts : (r : Record) (p : Place) → p ≡ place_in r.spot → ◌≡◌ {A = Worker} (record { place = p; reach = r.reach }) (worker_in r)
-worker_of_parts r p e = ap (λ (p : Place). record { place = p; reach = r.reach }) e
-
-pub record_of_parts : (w : Worker) (s : Spot) → s ≡ spot_of w.place → ◌≡◌ {A = Record} (record { spot = s; reach = w.reach }) (record_of w)
-record_of_parts w s e = ap (λ (s : Spot). record { spot = s; reach = w.reach }) e
-
-pub ruleset spots = (refl, worker_of_parts, record_of_parts, spot_at, edge_spot_at, vertex_spot_arg, to_z-of_z, sfits_of)
+use Rattle.border.specs.Kept.{prev_in, edge_place_in, finding_place_in, place_in, at_kind, vertex_spot, edge_spot, spot_of, worker_in, record_of}
 
 pub place_back : (p : Place) → place_in (spot_of p) ≡ p
 unfolding prev_in edge_place_in finding_place_in place_in at_kind vertex_spot edge_spot

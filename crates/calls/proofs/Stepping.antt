@@ -5,12 +5,14 @@ use mathlib.Core.List.{List}
 use mathlib.Core.Path.{◌≡◌, refl, sym, ◌∙◌, ap, subst}
 use lib.IntN.{ℤ}
 use lib.Seq.{set-get_or}
+use Rattle.std.proofs.Common.{Result}
 use Rattle.catalogue.specs.Catalogue.{Catalogue}
 use Rattle.catalogue.specs.Writes.{commit}
 use Rattle.catalogue.specs.Workers.{busy_at, blank, worker_at, put}
 use Rattle.catalogue.specs.Calls.{After, refuse, worker_fits, perform, step}
 use Rattle.catalogue.specs.Lent.{Memory, memory_of, view, sized, outcome_of, refused, lent_step}
 use Rattle.catalogue.specs.Steps.Decide.{decide, record_after, write_of, answer_of, stepped}
+use Rattle.catalogue.specs.declared.answers.Refusal.{Refusal}
 use Rattle.catalogue.specs.declared.answers.Answer.{Answer}
 use Rattle.catalogue.specs.declared.answers.Outcome.{Outcome}
 use Rattle.catalogue.specs.declared.answers.Refusal.TheVariants as refusal
@@ -23,8 +25,7 @@ use Rattle.catalogue.specs.declared.steps.Decision.TheVariants.{Torn, Code, Goin
 use Rattle.memory.specs.Memories.{Hold, Writable}
 use Rattle.calls.specs.Promised.{Steps}
 use Rattle.memory.proofs.Laid.{view_held}
-use Rattle.memory.proofs.Sizes.{sized_is, sized_flag}
-use Rattle.workers.proofs.CheckLaws.{below_flag}
+use Rattle.memory.proofs.Sizes.{sized_is}
 use Rattle.steps.specs.Follows.{Follows}
 use Rattle.steps.proofs.Made.{decide_follows}
 
@@ -46,7 +47,7 @@ module _ (C : Catalogue) (w : Worker) (d : Decision) where
   pub writable : (z : Write) → z ≡ write_of d → d ≡ decide C w → Writable z
   writable z f e = subst Writable (sym f) (follows_writable w d (follows e))
 
-  pub stepped_is : (after : Worker) (a : Answer) → d ≡ decide C w → after ≡ record_after w d → a ≡ answer_of d after → ◌≡◌ {A = Stepped} (record { worker = after; answer = a }) (stepped w (decide C w))
+  pub stepped_is : (after : Worker) (a : Result Answer Refusal) → d ≡ decide C w → after ≡ record_after w d → a ≡ answer_of d after → ◌≡◌ {A = Stepped} (record { worker = after; answer = a }) (stepped w (decide C w))
   stepped_is after a e f g = rw (← e, g, f)
 
   pub written_is : (keys : List ℤ) (words : List ℕ) (z : Write) → d ≡ decide C w → z ≡ write_of d → Hold keys words (commit C z) → Hold keys words (commit C (write_of (decide C w)))
@@ -99,16 +100,15 @@ module _ (keys : List ℤ) (words : List ℕ) (t : Table) (n : ℕ) (x : Outcome
 
       -- a step that is taken
       pub left_stepped :
-          busy_at (worker_at t n).place ≡ true →
           (w : Worker) (s : Stepped) (after : Table) (keys' : List ℤ) (words' : List ℕ) →
-          w ≡ worker_at t n → s ≡ stepped w (decide (view m) w) → after ≡ put t n s.worker → x ≡ record { table = after; answer = s.answer } →
+          busy_at w.place ≡ true → w ≡ worker_at t n → s ≡ stepped w (decide (view m) w) → after ≡ put t n s.worker → x ≡ record { table = after; answer = s.answer } →
           Hold keys' words' (commit (view m) (write_of (decide (view m) w))) → Steps m t n x keys' words'
       unfolding step
-      left_stepped g w s after keys' words' a b c e d =
+      left_stepped w s after keys' words' g a b c e d =
           let u = worker_at t n in
           left
           (record { catalogue = commit (view m) (write_of (decide (view m) u)); table = put t n (record_after u (decide (view m) u)); answer = answer_of (decide (view m) u) (record_after u (decide (view m) u)) })
-          (rw (f, g) (performed (view m) t n (decide (view m) u)))
+          (rw (f, ap (λ (w : Worker). busy_at w.place) (sym a) ∙ g) (performed (view m) t n (decide (view m) u)))
           (e ∙ ap (λ (t : Table). record { table = t; answer = s.answer }) c
           ∙ ap (λ (s : Stepped). record { table = put t n s.worker; answer = s.answer }) (b ∙ ap (λ (w : Worker). stepped w (decide (view m) w)) a))
           keys'
@@ -117,5 +117,4 @@ module _ (keys : List ℤ) (words : List ℕ) (t : Table) (n : ℕ) (x : Outcome
 
 pub ruleset record_step = (follows, writable, stepped_is, written_is)
 
--- what a call of the step asks for
-pub ruleset stepping = (below_flag, sized_flag)
+pub ruleset stepping = (left_stepped, left_unsized, left_worker, left_idle)

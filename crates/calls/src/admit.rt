@@ -1,43 +1,34 @@
 // What taking up returns for one worker.
 ghost use Rattle.std.specs.Prelude.{◌≡◌};
 ghost use Rattle.catalogue.specs.Calls.{admit};
-ghost use Rattle.catalogue.specs.Lent.{Sized, catalogue_in};
+ghost use Rattle.memory.specs.Memories.{held};
 
-use catalogue::answers::{Admission, Refusal};
-use catalogue::links::VertexLink;
+use catalogue::answers::Refusal;
+use catalogue::links::Link;
 use catalogue::workers::{Place, Request};
 use looks::keys::key_refused;
 use looks::places::first_place;
+use memory::Lent;
 use memory::reads::vertex_link;
 use workers::checks::one_to;
 use workers::requests::busy_at;
 
 // The worker's place, the code, the keys, then the head's link.
-pub fn admit(keys: &[i32], words: &[u32], place: Place, q: Request) -> Admission
-    requires { Sized keys.now words.now }
-    ensures { result ≡ admit (catalogue_in keys.now words.now) place q }
+#[tactic(auto, unfolding(catalogue::specs::Calls::admit))]
+pub fn admit(lent: Lent, place: Place, q: Request) -> Result<Place, Refusal>
+    ensures { result ≡ admit (held lent.entry) place q }
 {
     if busy_at(place) {
-        return Admission::Refused {
-            refusal: Refusal::Busy,
-        };
+        return Err(Refusal::Busy);
     }
-    if one_to(6, q.code) {
-        if key_refused(q) {
-            return Admission::Refused {
-                refusal: Refusal::Key,
-            };
-        }
-        let VertexLink::At { next, tag: _ } = vertex_link(words, 0) else {
-            return Admission::Refused {
-                refusal: Refusal::Torn,
-            };
-        };
-        return Admission::Begins {
-            place: first_place(q, next),
-        };
+    if !one_to(6, q.code) {
+        return Err(Refusal::Code);
     }
-    Admission::Refused {
-        refusal: Refusal::Code,
+    if key_refused(q) {
+        return Err(Refusal::Key);
     }
+    let Some(Link { next, .. }) = vertex_link(lent.words, 0) else {
+        return Err(Refusal::Torn);
+    };
+    Ok(first_place(q, next))
 }

@@ -1,18 +1,21 @@
 // A refusal, as the calls share it.
 ghost use Rattle.std.specs.Prelude.{◌≡◌};
 ghost use Rattle.catalogue.specs.Answers.{refusal_number};
-ghost use Rattle.catalogue.specs.Lent.{refused};
+ghost use Rattle.calls.specs.Promised.{or_refused};
 
-use catalogue::answers::{Answer, Outcome, Refusal};
+use catalogue::answers::{Outcome, Refusal};
 use catalogue::workers::Table;
 
 // A refusal returns the table unchanged.
-pub fn refuse(table: Table, refusal: Refusal) -> Outcome
-    ensures { result ≡ refused table refusal }
+pub fn or_refused(table: Table, made: Result<Outcome, Refusal>) -> Outcome
+    ensures { result ≡ or_refused table made }
 {
-    Outcome {
-        table,
-        answer: Answer::Refused { refusal },
+    match made {
+        Ok(outcome) => outcome,
+        Err(refusal) => Outcome {
+            table,
+            answer: Err(refusal),
+        },
     }
 }
 
@@ -20,13 +23,5 @@ pub fn refuse(table: Table, refusal: Refusal) -> Outcome
 pub fn refusal_number(refusal: Refusal) -> u8
     ensures { result ≡ refusal_number refusal }
 {
-    match refusal {
-        Refusal::Room => 20,
-        Refusal::Worker => 21,
-        Refusal::Busy => 22,
-        Refusal::Idle => 23,
-        Refusal::Code => 24,
-        Refusal::Key => 25,
-        Refusal::Torn => 26,
-    }
+    refusal as u8
 }

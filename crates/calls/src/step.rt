@@ -1,9 +1,9 @@
 // One step of one worker of a table.
 ghost use Rattle.catalogue.specs.Lent.{memory_of};
-ghost use Rattle.calls.specs.Promised.{Steps};
+ghost use Rattle.calls.specs.Promised.{Steps, or_refused};
 
-use crate::record::step_record;
-use crate::refusal::refuse;
+use crate::record::step_lent;
+use crate::refusal::or_refused;
 use catalogue::answers::{Outcome, Refusal};
 use catalogue::workers::Table;
 use memory::checks::sized;
@@ -11,27 +11,34 @@ use workers::checks::worker_fits;
 use workers::requests::busy_at;
 use workers::table::{put, worker_at};
 
+// The memory, the worker's number, then its place.
+#[tactic(auto, using(memory::proofs::Sizes::sizes, workers::proofs::CheckLaws::worker_below, crate::proofs::Stepping::stepping), unfolding(catalogue::specs::Lent::lent_step, catalogue::specs::Calls::step))]
+fn step_busy(
+    keys: &mut [i32],
+    words: &mut [u32],
+    table: Table,
+    worker: u32,
+) -> Result<Outcome, Refusal>
+    ensures { Steps (memory_of keys.old words.old) table worker (or_refused table result) keys.new words.new }
+{
+    sized(keys, words)?;
+    if !worker_fits(table.count, worker) {
+        return Err(Refusal::Worker);
+    }
+    let at = worker as usize;
+    let w = worker_at(table, at);
+    if !busy_at(w.place) {
+        return Err(Refusal::Idle);
+    }
+    let s = step_lent(keys, words, w);
+    Ok(Outcome {
+        table: put(table, at, s.worker),
+        answer: s.answer,
+    })
+}
+
 pub fn step(keys: &mut [i32], words: &mut [u32], table: Table, worker: u32) -> Outcome
     ensures { Steps (memory_of keys.old words.old) table worker result keys.new words.new }
 {
-    if sized(keys, words) {
-        if worker_fits(table.count, worker) {
-            let at = worker as usize;
-            let w = worker_at(table, at);
-            let place = w.place;
-            if busy_at(place) {
-                let s = step_record(keys, words, w);
-                let moved = s.worker;
-                let after = put(table, at, moved);
-                let answer = s.answer;
-                return Outcome {
-                    table: after,
-                    answer,
-                };
-            }
-            return refuse(table, Refusal::Idle);
-        }
-        return refuse(table, Refusal::Worker);
-    }
-    refuse(table, Refusal::Room)
+    or_refused(table, step_busy(keys, words, table, worker))
 }

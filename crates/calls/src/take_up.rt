@@ -1,39 +1,43 @@
 // Taking up a request.
 ghost use Rattle.catalogue.specs.Lent.{memory_of};
-ghost use Rattle.calls.specs.Promised.{TakesUp};
+ghost use Rattle.calls.specs.Promised.{TakesUp, or_refused};
 
 use crate::admit::admit;
-use crate::refusal::refuse;
-use catalogue::answers::{Admission, Answer, Outcome, Refusal};
+use crate::refusal::or_refused;
+use catalogue::answers::{Answer, Outcome, Refusal};
 use catalogue::workers::{Request, Table};
-use memory::checks::sized;
+use memory::checks::lend;
 use workers::checks::worker_fits;
 use workers::records::bare;
 use workers::table::{put, worker_at};
+
+// The memory, the worker's number, then what `admit` looks at.
+#[tactic(auto, using(memory::proofs::Sizes::sizes, workers::proofs::CheckLaws::worker_below), unfolding(catalogue::specs::Lent::lent_take_up, catalogue::specs::Calls::take_up))]
+fn take_up_admitted(
+    keys: &[i32],
+    words: &[u32],
+    table: Table,
+    worker: u32,
+    q: Request,
+) -> Result<Outcome, Refusal>
+    ensures { TakesUp (memory_of keys.now words.now) table worker q (or_refused table result) }
+{
+    let lent = lend(keys, words)?;
+    if !worker_fits(table.count, worker) {
+        return Err(Refusal::Worker);
+    }
+    let at = worker as usize;
+    let w = worker_at(table, at);
+    let first = admit(lent, w.place, q)?;
+    Ok(Outcome {
+        table: put(table, at, bare(first)),
+        answer: Ok(Answer::Going { met: 0 }),
+    })
+}
 
 // The catalogue is only read.
 pub fn take_up(keys: &[i32], words: &[u32], table: Table, worker: u32, q: Request) -> Outcome
     ensures { TakesUp (memory_of keys.now words.now) table worker q result }
 {
-    if sized(keys, words) {
-        if worker_fits(table.count, worker) {
-            let at = worker as usize;
-            let w = worker_at(table, at);
-            let place = w.place;
-            let admission = admit(keys, words, place, q);
-            return match admission {
-                Admission::Begins { place: first } => {
-                    let started = bare(first);
-                    let after = put(table, at, started);
-                    Outcome {
-                        table: after,
-                        answer: Answer::Going { met: 0 },
-                    }
-                }
-                Admission::Refused { refusal } => refuse(table, refusal),
-            };
-        }
-        return refuse(table, Refusal::Worker);
-    }
-    refuse(table, Refusal::Room)
+    or_refused(table, take_up_admitted(keys, words, table, worker, q))
 }

@@ -1,9 +1,9 @@
 -- Document 01, "Replies and refusals" and "The steps": taking up and a step, on a catalogue and a table,
 -- with the refusals 21 to 26 in their order.
-use Rattle.std.specs.Prelude.{ℕ, Bool, false, ltb}
+use Rattle.std.specs.Prelude.{ℕ, Bool, false, ltb, Result, Ok, Err}
 use Rattle.catalogue.specs.Tests.{pick, one_to}
 use Rattle.catalogue.specs.Numbers.{most_workers, head}
-use Rattle.catalogue.specs.Catalogue.{Catalogue, vertex_link, at_vertex}
+use Rattle.catalogue.specs.Catalogue.{Catalogue, vertex_link, at_link}
 use Rattle.catalogue.specs.Writes.{commit}
 use Rattle.catalogue.specs.Workers.{bare, worker_at, put, busy_at, busy}
 use Rattle.catalogue.specs.Steps.Places.{code_known, key_refused, first_place}
@@ -14,21 +14,19 @@ use Rattle.catalogue.specs.declared.workers.Worker.{Worker}
 use Rattle.catalogue.specs.declared.workers.Table.{Table}
 use Rattle.catalogue.specs.declared.answers.Refusal.{Refusal}
 use Rattle.catalogue.specs.declared.answers.Refusal.TheVariants as refusal
-use Rattle.catalogue.specs.declared.answers.Admission.{Admission}
-use Rattle.catalogue.specs.declared.answers.Admission.TheVariants as admission
 use Rattle.catalogue.specs.declared.answers.Answer.{Answer}
-use Rattle.catalogue.specs.declared.answers.Answer.TheVariants.{Going, Refused}
+use Rattle.catalogue.specs.declared.answers.Answer.TheVariants.{Going}
 use Rattle.catalogue.specs.declared.steps.Decision.{Decision}
 
 -- The catalogue and the table after a call, and its answer.
 pub record After : Type 0 where
   pub catalogue : Catalogue
   pub table : Table
-  pub answer : Answer
+  pub answer : Result Answer Refusal
 
 -- A refusal changes nothing.
 abbrev pub refuse : Catalogue → Table → Refusal → After
-refuse C t r = record { catalogue = C; table = t; answer = Refused r }
+refuse C t r = record { catalogue = C; table = t; answer = Err r }
 
 -- 21: a count that is not 1 to 8.
 unfoldable pub count_fits : ℕ → Bool
@@ -40,18 +38,18 @@ worker_fits count w = pick (count_fits count) (ltb w count) false
 
 -- What taking up answers a worker at a place: 22, 24, 25, then 26 if the head's link is torn;
 -- else the first place of the request.
-unfoldable pub admit : Catalogue → Place → Request → Admission
+unfoldable pub admit : Catalogue → Place → Request → Result Place Refusal
 admit C place q =
-    pick (busy_at place) (admission.Refused refusal.Busy)
+    pick (busy_at place) (Err refusal.Busy)
     (pick (code_known q.code)
-    (pick (key_refused q) (admission.Refused refusal.Key)
-    (at_vertex (vertex_link C head) (admission.Refused refusal.Torn) (λ first tag. admission.Begins (first_place q first))))
-    (admission.Refused refusal.Code))
+    (pick (key_refused q) (Err refusal.Key)
+    (at_link (vertex_link C head) (Err refusal.Torn) (λ first tag. Ok (first_place q first))))
+    (Err refusal.Code))
 
 -- The worker stands where it was admitted.
-abbrev pub admitted : Catalogue → Table → ℕ → Admission → After
-admitted C t w (admission.Begins place) = record { catalogue = C; table = put t w (bare place); answer = Going 0 }
-admitted C t w (admission.Refused r) = refuse C t r
+abbrev pub admitted : Catalogue → Table → ℕ → Result Place Refusal → After
+admitted C t w (Ok place) = record { catalogue = C; table = put t w (bare place); answer = Ok (Going 0) }
+admitted C t w (Err r) = refuse C t r
 
 -- Taking up: 21, and the rest.
 unfoldable pub take_up : Catalogue → Table → ℕ → Request → After

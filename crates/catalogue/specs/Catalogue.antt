@@ -1,13 +1,8 @@
 -- Document 01, "Numbers", paragraph 2: the catalogue, the fresh one, and what is read in it.
-use Rattle.std.specs.Prelude.{ℕ, ℤ, pos, ltb, eqb}
+use Rattle.std.specs.Prelude.{ℕ, ℤ, pos, ltb, eqb, Option, Some, None}
 use Rattle.catalogue.specs.Tests.{pick, upd}
-use Rattle.catalogue.specs.Numbers.{vertex_pool, head, tail, edge_pool, edge_tail, least, greatest, plain, marked, vertex_tag, first_tag, edge_tag, link, apart}
-use Rattle.catalogue.specs.declared.links.VertexLink.{VertexLink}
-use Rattle.catalogue.specs.declared.links.VertexLink.TheVariants as vertex
-use Rattle.catalogue.specs.declared.links.EdgeLink.{EdgeLink}
-use Rattle.catalogue.specs.declared.links.EdgeLink.TheVariants as edge
-use Rattle.catalogue.specs.declared.links.Target.{Target}
-use Rattle.catalogue.specs.declared.links.Target.TheVariants as target
+use Rattle.catalogue.specs.Numbers.{vertex_pool, head, tail, edge_pool, edge_tail, least, greatest, plain, marked, vertex_tag, first_tag, edge_tag, link, some_link, apart}
+use Rattle.catalogue.specs.declared.links.Link.{Link}
 
 -- Paragraph 2: how many vertices and edges are handed out.
 pub record Counts : Type 0 where
@@ -49,17 +44,17 @@ abbrev pub vertex_key : Catalogue → ℕ → ℤ
 vertex_key C = vertex_key_in C.vertices.key
 
 -- Paragraph 2: a vertex's link, whole. The tail has no mark, whatever memory holds, and nothing is read there.
-unfoldable pub vertex_link_in : (ℕ → ℕ) → ℕ → VertexLink
-vertex_link_in words n = pick (eqb n tail) (vertex.At tail plain) (apart vertex_pool vertex_tag (words n) vertex.Torn vertex.At)
+unfoldable pub vertex_link_in : (ℕ → ℕ) → ℕ → Option (Link ℕ)
+vertex_link_in words n = pick (eqb n tail) (some_link tail plain) (apart vertex_pool vertex_tag (words n))
 
-abbrev pub vertex_link : Catalogue → ℕ → VertexLink
+abbrev pub vertex_link : Catalogue → ℕ → Option (Link ℕ)
 vertex_link C = vertex_link_in C.vertices.link
 
 -- Paragraph 2: a vertex's link to its first edge, which is always PLAIN.
-unfoldable pub first_link_in : (ℕ → ℕ) → ℕ → EdgeLink
-first_link_in words n = apart edge_pool first_tag (words n) edge.Torn edge.At
+unfoldable pub first_link_in : (ℕ → ℕ) → ℕ → Option (Link ℕ)
+first_link_in words n = apart edge_pool first_tag (words n)
 
-abbrev pub first_link : Catalogue → ℕ → EdgeLink
+abbrev pub first_link : Catalogue → ℕ → Option (Link ℕ)
 first_link C = first_link_in C.vertices.first
 
 -- Paragraph 2: an edge's key. The tail's is the greatest, whatever memory holds.
@@ -70,32 +65,28 @@ abbrev pub edge_key : Catalogue → ℕ → ℤ
 edge_key C = edge_key_in C.edges.key
 
 -- Paragraph 2: an edge's link, whole. The tail has none: a record that needs one there (as p or as own edge) is torn.
-unfoldable pub edge_link_in : (ℕ → ℕ) → ℕ → EdgeLink
-edge_link_in words n = pick (eqb n edge_tail) edge.Torn (pick (ltb n edge_pool) (apart edge_pool edge_tag (words n) edge.Torn edge.At) edge.Torn)
+unfoldable pub edge_link_in : (ℕ → ℕ) → ℕ → Option (Link ℕ)
+edge_link_in words n = pick (eqb n edge_tail) None (pick (ltb n edge_pool) (apart edge_pool edge_tag (words n)) None)
 
-abbrev pub edge_link : Catalogue → ℕ → EdgeLink
+abbrev pub edge_link : Catalogue → ℕ → Option (Link ℕ)
 edge_link C = edge_link_in C.edges.link
 
 -- Paragraph 2: the target of an edge, a vertex number.
-unfoldable pub edge_target_in : (ℕ → ℕ) → ℕ → Target
-edge_target_in words n = pick (ltb (words n) vertex_pool) (target.At (words n)) target.Torn
+unfoldable pub edge_target_in : (ℕ → ℕ) → ℕ → Option ℕ
+edge_target_in words n = pick (ltb (words n) vertex_pool) (Some (words n)) None
 
-abbrev pub edge_target : Catalogue → ℕ → Target
+abbrev pub edge_target : Catalogue → ℕ → Option ℕ
 edge_target C = edge_target_in C.edges.target
 
 -- An answer of a read taken apart; `torn` is what becomes of a torn one.
-abbrev pub at_vertex : {A : Type 0} → VertexLink → A → (ℕ → ℕ → A) → A
-at_vertex (vertex.At next tag) torn f = f next tag
-at_vertex vertex.Torn torn f = torn
+abbrev pub at_link : {A : Type 0} → Option (Link ℕ) → A → (ℕ → ℕ → A) → A
+at_link (Some l) torn f = f l.next l.tag
+at_link None torn f = torn
 
-abbrev pub at_edge : {A : Type 0} → EdgeLink → A → (ℕ → ℕ → A) → A
-at_edge (edge.At next tag) torn f = f next tag
-at_edge edge.Torn torn f = torn
-
-abbrev pub at_target : {A : Type 0} → Target → A → (ℕ → A) → A
-at_target (target.At n) torn f = f n
-at_target target.Torn torn f = torn
+abbrev pub at_target : {A : Type 0} → Option ℕ → A → (ℕ → A) → A
+at_target (Some n) torn f = f n
+at_target None torn f = torn
 
 -- the mark of a vertex, read with its whole link: what follows if it is marked, and if not
-abbrev pub at_mark : {A : Type 0} → VertexLink → A → A → A → A
-at_mark l torn dead live = at_vertex l torn (λ next tag. pick (eqb tag marked) dead live)
+abbrev pub at_mark : {A : Type 0} → Option (Link ℕ) → A → A → A → A
+at_mark l torn dead live = at_link l torn (λ next tag. pick (eqb tag marked) dead live)

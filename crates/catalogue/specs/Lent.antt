@@ -1,7 +1,7 @@
 -- The calls on lent memory: document 01, "Replies and refusals", 20, and the lent memory after each call.
 -- A catalogue is lent as two runs of numbers. The keys: 256 of vertices, then 2,048 of edges.
 -- The words: the two counts handed out, 256 vertex links, 256 first-edge links, 2,048 edge targets, 2,048 edge links.
-use Rattle.std.specs.Prelude.{ℕ, ◌+◌, Bool, false, ◌≡◌, List, ◌∷◌, ◌++◌, ℤ, pos, length, get_or, eqb, leb}
+use Rattle.std.specs.Prelude.{ℕ, ◌+◌, Bool, false, ◌≡◌, List, ◌∷◌, ◌++◌, ℤ, pos, length, get_or, eqb, leb, Result, Ok, Err}
 use Rattle.catalogue.specs.Tests.{pick, table_from}
 use Rattle.catalogue.specs.Catalogue.{Catalogue, fresh}
 use Rattle.catalogue.specs.Calls.{After, take_up, step}
@@ -13,13 +13,9 @@ use Rattle.catalogue.specs.declared.workers.Request.{Request}
 use Rattle.catalogue.specs.declared.workers.Table.{Table}
 use Rattle.catalogue.specs.declared.answers.Refusal.{Refusal}
 use Rattle.catalogue.specs.declared.answers.Refusal.TheVariants as refusal
-use Rattle.catalogue.specs.declared.answers.Answer.TheVariants as answer
 use Rattle.catalogue.specs.declared.answers.Outcome.{Outcome}
-use Rattle.catalogue.specs.declared.answers.Made.{Made}
-use Rattle.catalogue.specs.declared.answers.Made.TheVariants as made
-use Rattle.catalogue.specs.declared.listing.Listed.TheVariants as listed
-use Rattle.catalogue.specs.declared.script.Ran.{Ran}
-use Rattle.catalogue.specs.declared.script.Ran.TheVariants as ran
+use Rattle.catalogue.specs.declared.script.RunError.{RunError}
+use Rattle.catalogue.specs.declared.script.RunError.TheVariants as run_error
 
 -- Two runs of numbers that stand for a catalogue.
 pub record Memory : Type 0 where
@@ -98,13 +94,13 @@ output_fits output = leb output_size (length output)
 -- A fresh catalogue.
 pub record LentMade : Type 0 where
   pub memory : Memory
-  pub answer : Made
+  pub answer : Result (Unit {0}) Refusal
 
 abbrev pub refuse_made : Memory → LentMade
-refuse_made m = record { memory = m; answer = made.Refused refusal.Room }
+refuse_made m = record { memory = m; answer = Err refusal.Room }
 
 unfoldable pub lent_fresh : Memory → LentMade
-lent_fresh m = pick (sized m) (record { memory = lay fresh; answer = made.Done }) (refuse_made m)
+lent_fresh m = pick (sized m) (record { memory = lay fresh; answer = Ok tt }) (refuse_made m)
 
 abbrev pub outcome_of : After → Outcome
 outcome_of a = record { table = a.table; answer = a.answer }
@@ -118,7 +114,7 @@ abbrev pub after_call : After → LentCall
 after_call a = record { memory = lay a.catalogue; outcome = outcome_of a }
 
 abbrev pub refused : Table → Refusal → Outcome
-refused t r = record { table = t; answer = answer.Refused r }
+refused t r = record { table = t; answer = Err r }
 
 abbrev pub lent_call : Memory → Table → (Catalogue → After) → LentCall
 lent_call m t call =
@@ -142,21 +138,21 @@ lent_sweep m n t =
 -- A listing: memory of a wrong size, or too little output.
 unfoldable pub lent_listing : Memory → List ℕ → AfterListing
 lent_listing m output =
-    let refused : AfterListing = record { output = output; answer = listed.Refused refusal.Room } in
+    let refused : AfterListing = record { output = output; answer = Err refusal.Room } in
     pick (sized m) (pick (output_fits output) (list_into (view m) output) refused) refused
 
 -- A script: 20, then 27 with its line; else the memory is made fresh and the script run on it.
 pub record LentRun : Type 0 where
   pub memory : Memory
   pub output : List ℕ
-  pub answer : Ran
+  pub answer : Result ℕ RunError
 
 abbrev pub after_run : Memory → List ℕ → Read Script → LentRun
-after_run m output (bad n) = record { memory = m; output = output; answer = ran.BadScript n }
+after_run m output (bad n) = record { memory = m; output = output; answer = Err (run_error.BadScript n) }
 after_run m output (good s) =
-    record { memory = lay (run s).catalogue; output = written (run_text s) output; answer = ran.Written (length (run_text s)) }
+    record { memory = lay (run s).catalogue; output = written (run_text s) output; answer = Ok (length (run_text s)) }
 
 unfoldable pub lent_run : List ℕ → Memory → List ℕ → LentRun
 lent_run text m output =
-    let refused : LentRun = record { memory = m; output = output; answer = ran.Refused refusal.Room } in
+    let refused : LentRun = record { memory = m; output = output; answer = Err (run_error.Refused refusal.Room) } in
     pick (sized m) (pick (output_fits output) (after_run m output (read_script text)) refused) refused

@@ -1,13 +1,12 @@
 -- Document 01, "Sweep and listing", the paragraph on output; a listing called alone, and its refusal 26.
-use Rattle.std.specs.Prelude.{ℕ, List, [], ◌∷◌, ◌++◌, map, ℤ, pos, length, drop}
+use Rattle.std.specs.Prelude.{ℕ, List, [], ◌∷◌, ◌++◌, map, ℤ, pos, length, drop, Result, Ok, Err}
 use Rattle.catalogue.specs.Tests.{pick, keep}
 use Rattle.catalogue.specs.Catalogue.{Catalogue}
 use Rattle.catalogue.specs.Live.{live_vertices, live_keys, live_pairs, edges_of, is_added, gather}
 use Rattle.catalogue.specs.Soundness.{sound, listing}
 use Rattle.catalogue.specs.Text.{lines}
+use Rattle.catalogue.specs.declared.answers.Refusal.{Refusal}
 use Rattle.catalogue.specs.declared.answers.Refusal.TheVariants as refusal
-use Rattle.catalogue.specs.declared.listing.Listed.{Listed}
-use Rattle.catalogue.specs.declared.listing.Listed.TheVariants.{Written, Refused}
 
 -- A reply as the output shows it.
 pub record ReplyLine : Type 0 where
@@ -43,11 +42,11 @@ written text output = text ++ drop (length text) output
 
 pub record AfterListing : Type 0 where
   pub output : List ℕ
-  pub answer : Listed
+  pub answer : Result ℕ Refusal
 
 -- A listing called alone: no replies; 26.
 unfoldable pub list_into : Catalogue → List ℕ → AfterListing
 list_into C output =
     let text = result_text C [] in
-    pick (sound listing C) (record { output = written text output; answer = Written (length text) })
-    (record { output = output; answer = Refused refusal.Torn })
+    pick (sound listing C) (record { output = written text output; answer = Ok (length text) })
+    (record { output = output; answer = Err refusal.Torn })

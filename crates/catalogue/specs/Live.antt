@@ -2,7 +2,7 @@
 use Rattle.std.specs.Prelude.{ℕ, zero, suc, Bool, true, false, List, [], ◌∷◌, ◌++◌, map, ℤ, eqb}
 use Rattle.catalogue.specs.Tests.{pick, keep}
 use Rattle.catalogue.specs.Numbers.{head, tail, edge_tail, vertex_pool, edge_pool, added}
-use Rattle.catalogue.specs.Catalogue.{Catalogue, vertex_key, vertex_link, first_link, edge_key, edge_link, edge_target, at_vertex, at_edge, at_target, at_mark}
+use Rattle.catalogue.specs.Catalogue.{Catalogue, vertex_key, vertex_link, first_link, edge_key, edge_link, edge_target, at_link, at_target, at_mark}
 
 -- The nodes of a list from x on to its end, by a next for each node; no list has more nodes than its pool.
 unfoldable pub walk : (ℕ → ℕ) → ℕ → ℕ → ℕ → List ℕ
@@ -10,13 +10,13 @@ walk next end zero x = []
 walk next end (suc n) x = elim (eqb x end) [ true ↦ [] | false ↦ x ∷ walk next end n (next x) ]
 
 abbrev pub next_vertex : Catalogue → ℕ → ℕ
-next_vertex C x = at_vertex (vertex_link C x) tail (λ next tag. next)
+next_vertex C x = at_link (vertex_link C x) tail (λ next tag. next)
 
 abbrev pub first_edge : Catalogue → ℕ → ℕ
-first_edge C x = at_edge (first_link C x) edge_tail (λ next tag. next)
+first_edge C x = at_link (first_link C x) edge_tail (λ next tag. next)
 
 abbrev pub next_edge : Catalogue → ℕ → ℕ
-next_edge C e = at_edge (edge_link C e) edge_tail (λ next tag. next)
+next_edge C e = at_link (edge_link C e) edge_tail (λ next tag. next)
 
 -- the vertices that the head leads to, other than the tail, marked ones too
 abbrev pub vertices : Catalogue → List ℕ
@@ -30,7 +30,7 @@ abbrev pub unmarked : Catalogue → ℕ → Bool
 unmarked C x = at_mark (vertex_link C x) false false true
 
 abbrev pub is_added : Catalogue → ℕ → Bool
-is_added C e = at_edge (edge_link C e) false (λ next tag. eqb tag added)
+is_added C e = at_link (edge_link C e) false (λ next tag. eqb tag added)
 
 -- an ADDED edge whose target is not marked
 abbrev pub is_live : Catalogue → ℕ → Bool

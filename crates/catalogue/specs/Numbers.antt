@@ -1,6 +1,7 @@
 -- Document 01, "Numbers": workers, pools, keys, links and tags.
-use Rattle.std.specs.Prelude.{ℕ, ◌+◌, ◌*◌, ◌/◌, ◌%◌, Bool, true, ℤ, pos, negsuc, ltb, leb, eqb}
+use Rattle.std.specs.Prelude.{ℕ, ◌+◌, ◌*◌, ◌/◌, ◌%◌, Bool, true, ℤ, pos, negsuc, ltb, leb, eqb, Option, Some, None}
 use Rattle.catalogue.specs.Tests.{pick, eq_z}
+use Rattle.catalogue.specs.declared.links.Link.{Link}
 use Rattle.catalogue.specs.declared.links.Room.{Room}
 use Rattle.catalogue.specs.declared.links.Room.TheVariants.{Next, Full, Torn}
 
@@ -68,9 +69,13 @@ first_tag t = eqb t plain
 abbrev pub edge_tag : ℕ → Bool
 edge_tag t = leb marked t
 
--- A word taken apart, where a pool and a test of the tag are known; `torn` where the word is no such link.
-abbrev pub apart : {A : Type 0} → ℕ → (ℕ → Bool) → ℕ → A → (ℕ → ℕ → A) → A
-apart pool allowed word torn at = pick (ltb (word / 4) pool) (pick (allowed (word % 4)) (at (word / 4) (word % 4)) torn) torn
+-- A whole link, as a read answers it.
+abbrev pub some_link : ℕ → ℕ → Option (Link ℕ)
+some_link next tag = Some (record { next = next; tag = tag })
+
+-- A word taken apart, where a pool and a test of the tag are known; nothing where the word is no such link.
+abbrev pub apart : ℕ → (ℕ → Bool) → ℕ → Option (Link ℕ)
+apart pool allowed word = pick (ltb (word / 4) pool) (pick (allowed (word % 4)) (some_link (word / 4) (word % 4)) None) None
 
 -- First paragraph: a pool hands out its nodes in rising order, so the count handed out says which is next.
 -- Above its limit a count is torn.

@@ -1,6 +1,6 @@
 -- Document 01, "Sweep and listing", the last sentence on scripts, and the output:
 -- running a script from the fresh catalogue.
-use Rattle.std.specs.Prelude.{ℕ, suc, List, [], ◌∷◌, ◌++◌, length, get_or, set, take, drop}
+use Rattle.std.specs.Prelude.{ℕ, suc, List, [], ◌∷◌, ◌++◌, length, get_or, set, take, drop, Result, Ok, Err}
 use Rattle.catalogue.specs.Tests.{pick}
 use Rattle.catalogue.specs.Catalogue.{Catalogue, fresh}
 use Rattle.catalogue.specs.Workers.{worker_at, busy, idle_table, request_of}
@@ -9,8 +9,9 @@ use Rattle.catalogue.specs.Listing.{ReplyLine, result_text}
 use Rattle.catalogue.specs.Script.{Script}
 use Rattle.catalogue.specs.declared.workers.Table.{Table}
 use Rattle.catalogue.specs.declared.workers.Request.{Request}
+use Rattle.catalogue.specs.declared.answers.Refusal.{Refusal}
 use Rattle.catalogue.specs.declared.answers.Answer.{Answer}
-use Rattle.catalogue.specs.declared.answers.Answer.TheVariants.{Going, Reply, Refused}
+use Rattle.catalogue.specs.declared.answers.Answer.TheVariants.{Going, Reply}
 
 -- A run so far: the catalogue, the workers, the requests that each has left, and the replies.
 pub record Running : Type 0 where
@@ -25,10 +26,10 @@ shares [] rs = []
 shares (n ∷ ns) rs = take n rs ∷ shares ns (drop n rs)
 
 -- a reply that a step gave, at the end of those before it
-abbrev pub with_reply : List ReplyLine → ℕ → ℕ → ℕ → Answer → List ReplyLine
-with_reply replies position worker code (Going met) = replies
-with_reply replies position worker code (Reply n) = replies ++ (record { position = position; worker = worker; code = code; reply = n } ∷ [])
-with_reply replies position worker code (Refused r) = replies
+abbrev pub with_reply : List ReplyLine → ℕ → ℕ → ℕ → Result Answer Refusal → List ReplyLine
+with_reply replies position worker code (Ok (Going met)) = replies
+with_reply replies position worker code (Ok (Reply n)) = replies ++ (record { position = position; worker = worker; code = code; reply = n } ∷ [])
+with_reply replies position worker code (Err r) = replies
 
 -- a busy worker steps
 abbrev pub steps_on : Running → ℕ → ℕ → Running

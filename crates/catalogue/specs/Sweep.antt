@@ -1,5 +1,5 @@
 -- Document 01, "Sweep and listing", second paragraph: what a sweep writes, and its refusals 21, 22 and 26.
-use Rattle.std.specs.Prelude.{ℕ, zero, suc, ◌+◌, Bool, true, false, List, [], ◌∷◌, map, ℤ, pos, length, get_or, eqb, leb, ltb}
+use Rattle.std.specs.Prelude.{ℕ, zero, suc, ◌+◌, Bool, true, false, List, [], ◌∷◌, map, ℤ, pos, length, get_or, eqb, leb, ltb, Result, Ok, Err}
 use Rattle.catalogue.specs.Tests.{pick}
 use Rattle.catalogue.specs.Numbers.{head, tail, edge_tail, least, plain, added, link}
 use Rattle.catalogue.specs.Catalogue.{Catalogue, edge_key, edge_target, at_target}
@@ -10,8 +10,6 @@ use Rattle.catalogue.specs.Soundness.{sound, sweep}
 use Rattle.catalogue.specs.declared.workers.Table.{Table}
 use Rattle.catalogue.specs.declared.answers.Refusal.{Refusal}
 use Rattle.catalogue.specs.declared.answers.Refusal.TheVariants as refusal
-use Rattle.catalogue.specs.declared.answers.Made.{Made}
-use Rattle.catalogue.specs.declared.answers.Made.TheVariants.{Done, Refused}
 
 -- The place of a number in a list, counted from a first number; past the end where it is not in the list.
 unfoldable pub position : ℕ → List ℕ → ℕ → ℕ
@@ -86,15 +84,15 @@ any_busy t (suc n) = pick (busy t n) true (any_busy t n)
 -- The second catalogue after a sweep, and the answer. The first catalogue and the table are unchanged.
 pub record AfterSweep : Type 0 where
   pub second : Catalogue
-  pub answer : Made
+  pub answer : Result (Unit {0}) Refusal
 
 abbrev pub refuse_sweep : Catalogue → Refusal → AfterSweep
-refuse_sweep D r = record { second = D; answer = Refused r }
+refuse_sweep D r = record { second = D; answer = Err r }
 
 -- A sweep from C into D: 21, 22, 26.
 unfoldable pub sweep_into : Catalogue → Catalogue → Table → AfterSweep
 sweep_into C D t =
     pick (count_fits t.count)
     (pick (any_busy t t.count) (refuse_sweep D refusal.Busy)
-    (pick (sound sweep C) (record { second = swept C; answer = Done }) (refuse_sweep D refusal.Torn)))
+    (pick (sound sweep C) (record { second = swept C; answer = Ok tt }) (refuse_sweep D refusal.Torn)))
     (refuse_sweep D refusal.Worker)

@@ -1,11 +1,15 @@
 -- Tests that compute, and the small tools that every definition uses.
-use Rattle.std.specs.Prelude.{ℕ, zero, suc, Bool, true, false, List, [], ◌∷◌, ℤ, pos, negsuc, eqb, leb}
+use Rattle.std.specs.Prelude.{ℕ, zero, suc, Bool, true, false, List, [], ◌∷◌, ℤ, pos, negsuc, eqb, leb, Result, Ok, Err}
 use Rattle.std.proofs.Math.Option.{Option, none, some}
 
 -- the first of two where the test holds, else the second
 abbrev pub pick : {A : Type 0} → Bool → A → A → A
 pick true a b = a
 pick false a b = b
+
+-- A check that refuses where its test fails.
+abbrev pub checked : {E : Type 0} → Bool → E → Result (Unit {0}) E
+checked t why = pick t (Ok tt) (Err why)
 
 -- a number is 1 to another
 abbrev pub one_to : ℕ → ℕ → Bool

@@ -1,52 +1,37 @@
 // What the calls answer.
-use crate::workers::{Place, Table, Worker};
+use crate::workers::{Table, Worker};
 
-// The refusals that a call on workers and catalogues can give.
+// The refusals that a call on workers and catalogues can give, with their numbers of document 01.
 // That of a script carries its line: see the module `script`.
 #[derive(Clone, Copy)]
 pub enum Refusal {
-    Room,
-    Worker,
-    Busy,
-    Idle,
-    Code,
-    Key,
-    Torn,
+    Room = 20,
+    Worker = 21,
+    Busy = 22,
+    Idle = 23,
+    Code = 24,
+    Key = 25,
+    Torn = 26,
 }
 
-// What taking up and a step answer: going on, with the number of series that the trial has met; a reply; or a
-// refusal.
+// What taking up and a step answer where they are not refused: going on, with the number of series that the trial has
+// met; or a reply, by its number of document 01, of which the promises speak (`Cycle`, `NoRoom`).
 #[derive(Clone, Copy)]
 pub enum Answer {
     Going { met: u32 },
     Reply { number: u8 },
-    Refused { refusal: Refusal },
-}
-
-// What taking up answers for one worker: the first place of the request, or a refusal.
-#[derive(Clone, Copy)]
-pub enum Admission {
-    Begins { place: Place },
-    Refused { refusal: Refusal },
 }
 
 // The answer, with the table after the call.
 #[derive(Clone, Copy)]
 pub struct Outcome {
     pub table: Table,
-    pub answer: Answer,
+    pub answer: Result<Answer, Refusal>,
 }
 
 // One step of one record: the record after it, and the answer.
 #[derive(Clone, Copy)]
 pub struct Stepped {
     pub worker: Worker,
-    pub answer: Answer,
-}
-
-// What a call answers that makes a whole catalogue: a fresh one, or a sweep's.
-#[derive(Clone, Copy)]
-pub enum Made {
-    Done,
-    Refused { refusal: Refusal },
+    pub answer: Result<Answer, Refusal>,
 }

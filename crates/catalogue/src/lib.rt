@@ -4,7 +4,6 @@
 
 pub mod answers;
 pub mod links;
-pub mod listing;
 pub mod script;
 pub mod steps;
 pub mod workers;

@@ -1,28 +1,20 @@
 // What a read of the lent catalogue answers. Each word is taken apart once, where it is read.
-// `Torn` is the answer for a word that document 01 does not allow there (The steps, the paragraph on TORN).
-// The compiler refuses a reader that forgets the case.
+// A read of a link or of a target answers an `Option`: `None` is for a word that document 01 does not allow there
+// (The steps, the paragraph on TORN). The compiler refuses a reader that forgets the case.
 
-// A vertex's link: the next vertex, and the tag of the vertex that owns the link.
+// A link taken apart: the node that it leads to, and the tag of the node that owns it. The tag is a number, since a
+// link's word is made of it (`Numbers: link`) and every theorem on links names it so.
 #[derive(Clone, Copy)]
-pub enum VertexLink {
-    At { next: u8, tag: u8 },
-    Torn,
+pub struct Link<N> {
+    pub next: N,
+    pub tag: u8,
 }
+
+// A vertex's link, which leads to a vertex.
+pub type VertexLink = Link<u8>;
 
 // A link that leads to an edge: a vertex's first-edge link, or the link of an edge node.
-// The tag belongs to the node that owns the link.
-#[derive(Clone, Copy)]
-pub enum EdgeLink {
-    At { next: u16, tag: u8 },
-    Torn,
-}
-
-// The target of an edge: a vertex number.
-#[derive(Clone, Copy)]
-pub enum Target {
-    At { vertex: u8 },
-    Torn,
-}
+pub type EdgeLink = Link<u16>;
 
 // What a pool has left: the node that it hands out next, or nothing, or a count that the pool cannot have.
 #[derive(Clone, Copy)]
@@ -31,3 +23,12 @@ pub enum Room {
     Full,
     Torn,
 }
+
+// The tags of links, as document 01 numbers them.
+pub const PLAIN: u8 = 0;
+
+pub const MARKED: u8 = 1;
+
+pub const TRANSIT: u8 = 2;
+
+pub const ADDED: u8 = 3;

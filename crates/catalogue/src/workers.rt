@@ -84,7 +84,8 @@ pub struct Table {
     pub workers: [Worker; 8],
 }
 
-// A request: its code, and its keys; codes 1 to 3 use k alone.
+// A request: its code, and its keys; codes 1 to 3 use k alone. The code is a number, since any may be asked and all but
+// 1 to 6 are refused as CODE.
 #[derive(Clone, Copy)]
 pub struct Request {
     pub code: u32,

@@ -1,3 +1,2 @@
 -- Laws of memory that is cleared and laid out fresh.
-pub mod Fills
 pub mod Zeros

@@ -1,19 +1,14 @@
 -- Memory of zeros is that of a catalogue of zeros, which the head's key and the head's link make the fresh one.
--- Also the memory after a call for it.
 use Prim.Native.Nat.{ℕ, ◌+◌, ◌<◌}
-use mathlib.Core.Bool.{true, false}
 use mathlib.Core.List.{List}
-use mathlib.Core.Path.{◌≡◌, refl}
+use mathlib.Core.Path.{◌≡◌}
 use native.Mathlib.Omega.{arith}
 use lib.IntN.{ℤ, pos}
 use lib.ListN.{length, get_or, set, replicate, length-replicate, get_or-replicate}
 use lib.Dec.{lit<}
 use Rattle.catalogue.specs.Numbers.{link, least, head, tail, plain}
 use Rattle.catalogue.specs.Catalogue.{Catalogue, fresh}
-use Rattle.catalogue.specs.Lent.{Memory, lay, sized, lent_fresh, keys_size, words_size}
-use Rattle.catalogue.specs.declared.answers.Refusal.TheVariants as refusal
-use Rattle.catalogue.specs.declared.answers.Made.TheVariants as made
-use Rattle.clearing.specs.Promised.{MakesFresh}
+use Rattle.catalogue.specs.Lent.{lay, keys_size, words_size}
 use Rattle.memory.specs.Memories.{Hold}
 use Rattle.memory.proofs.Laid.{laid_keys, laid_words}
 use Rattle.memory.proofs.Tables.{set_front}
@@ -42,15 +37,6 @@ zero_words size words s e =
     (at 0 (omega arith)) (at 1 (omega arith))
     (λ n h. at (2 + n) (omega arith)) (λ n h. at (258 + n) (omega arith))
     (λ n h. at (514 + n) (omega arith)) (λ n h. at (2562 + n) (omega arith))
-
-module _ (m : Memory) where
-  pub left_unsized : sized m ≡ false → MakesFresh m (made.Refused refusal.Room) m.keys m.words
-  unfolding lent_fresh
-  left_unsized h = rw h (refl, (refl, refl))
-
-  pub made_fresh : (keys : List ℤ) (words : List ℕ) → sized m ≡ true → Hold keys words fresh → MakesFresh m made.Done keys words
-  unfolding lent_fresh
-  made_fresh keys words h held = rw h (refl, held)
 
 pub fresh_laid : (keys k₁ k₂ : List ℤ) (words w₁ w₂ : List ℕ) (key : ℤ) → length keys ≡ keys_size → length words ≡ words_size
     → k₁ ≡ replicate (length keys) (pos 0) → k₂ ≡ set k₁ head key → key ≡ least

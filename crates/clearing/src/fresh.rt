@@ -1,55 +1,33 @@
 // A fresh catalogue in lent memory.
-ghost use Rattle.std.specs.Prelude.{◌≡◌, pos, length, replicate};
 ghost use Rattle.catalogue.specs.Catalogue.{fresh};
-ghost use Rattle.catalogue.specs.Lent.{keys_size, words_size, memory_of};
+ghost use Rattle.catalogue.specs.Lent.{memory_of};
 ghost use Rattle.clearing.specs.Promised.{MakesFresh};
 ghost use Rattle.memory.specs.Memories.{Hold};
 
-use catalogue::answers::{Made, Refusal};
+use catalogue::answers::Refusal;
+use catalogue::links::PLAIN;
 use memory::checks::sized;
+use memory::{KEYS_SIZE, Keys, WORDS_SIZE, Words};
 use writing::writes::{put_vertex_key, put_vertex_link};
 
-fn clear_keys(keys: &mut [i32])
-    ensures { keys.new ≡ replicate (length keys.old) (pos 0) }
-{
-    let mut i = 0;
-    while i < keys.len() {
-        keys[i] = 0;
-        i += 1;
-    }
-}
-
-fn clear_words(words: &mut [u32])
-    ensures { words.new ≡ replicate (length words.old) 0 }
-{
-    let mut i = 0;
-    while i < words.len() {
-        words[i] = 0;
-        i += 1;
-    }
-}
-
 // All of it is zero, but for the head's key and the head's link to the tail.
-pub fn lay_fresh(keys: &mut [i32], words: &mut [u32])
-    requires keys_len { length keys.old ≡ keys_size }
-    requires words_len { length words.old ≡ words_size }
+pub fn lay_fresh(keys: &mut Keys, words: &mut Words)
     ensures { Hold keys.new words.new fresh }
 {
-    clear_keys(keys);
-    clear_words(words);
+    keys.fill(0);
+    words.fill(0);
     put_vertex_key(keys, 0, -2147483648);
-    put_vertex_link(words, 0, 1, 0);
+    put_vertex_link(words, 0, 1, PLAIN);
 }
 
 // Memory of another size is refused, and unchanged.
-pub fn fresh(keys: &mut [i32], words: &mut [u32]) -> Made
+#[tactic(auto, using(memory::proofs::Sizes::sizes), unfolding(catalogue::specs::Lent::lent_fresh))]
+pub fn fresh(keys: &mut [i32], words: &mut [u32]) -> Result<(), Refusal>
     ensures { MakesFresh (memory_of keys.old words.old) result keys.new words.new }
 {
-    if sized(keys, words) {
-        lay_fresh(keys, words);
-        return Made::Done;
-    }
-    Made::Refused {
-        refusal: Refusal::Room,
-    }
+    sized(keys, words)?;
+    let keys = keys.as_mut_array::<KEYS_SIZE>().unwrap();
+    let words = words.as_mut_array::<WORDS_SIZE>().unwrap();
+    lay_fresh(keys, words);
+    Ok(())
 }

@@ -3,7 +3,7 @@
 use Prim.Native.Nat.{ℕ, zero, suc, ◌+◌, ◌≤◌, ◌<◌}
 use mathlib.Core.Bool.{Bool, true, false}
 use mathlib.Core.List.{List, [], ◌∷◌, ◌++◌, append-nil}
-use mathlib.Core.Option.{Option, none, some}
+use mathlib.Core.Option as maybe
 use mathlib.Core.Path.{◌≡◌, refl, sym, ap, ◌∙◌}
 use native.Mathlib.Omega.{arith}
 use native.Mathlib.Numerals.{add-one}
@@ -18,11 +18,9 @@ use borrow.Author.Tests.{eq-eqb, ne_eqb, leb-true}
 use Rattle.catalogue.specs.Tests.{pick, given}
 use Rattle.catalogue.specs.Script.{natural, signed, negated}
 use Rattle.laws.proofs.Picks.{clash, pick_both}
-use Rattle.digits.specs.Digits.{digit, digits_of, signed_of, most_number, number_fits, signed_fits, as_digits, digits_at, as_signed, signed_at}
-use Rattle.digits.specs.declared.numbers.Digits.{Digits}
-use Rattle.digits.specs.declared.numbers.Digits.TheVariants as digits
-use Rattle.digits.specs.declared.signed.Signed.{Signed}
-use Rattle.digits.specs.declared.signed.Signed.TheVariants.{None, At}
+use Rattle.digits.specs.Digits.{digit, digits_of, signed_of, most_number, number_fits, signed_fits, found, digits_at, signed_at}
+use Rattle.digits.specs.declared.numbers.Parsed.{Parsed}
+use Rattle.std.specs.Prelude.{Option, None, Some}
 
 -- ---- a number of 31 bits as a signed one
 
@@ -53,7 +51,7 @@ module _ (b : ℕ) (bs : List ℕ) where
   unfolding signed_of
   cut_minus e = rw (eq-eqb b 45 e)
 
-  pub signed_minus : b ≡ 45 → signed (b ∷ bs) ≡ given (natural bs) none negated
+  pub signed_minus : b ≡ 45 → signed (b ∷ bs) ≡ given (natural bs) maybe.none negated
   signed_minus e = rw (eq-eqb b 45 e)
 
   module _ (n : b ≡ 45 → ⊥) where
@@ -61,67 +59,66 @@ module _ (b : ℕ) (bs : List ℕ) where
     unfolding signed_of
     cut_plain = rw (ne_eqb b 45 n)
 
-    signed_plain : signed (b ∷ bs) ≡ given (natural (b ∷ bs)) none (λ m. some (pos m))
+    signed_plain : signed (b ∷ bs) ≡ given (natural (b ∷ bs)) maybe.none (λ m. maybe.some (pos m))
     signed_plain = rw (ne_eqb b 45 n)
 
 -- digits and what follows them, where no minus stands before
 pub plain_piece : (c : ℕ) (cs : List ℕ) → (c ≡ 45 → ⊥) → (v : List ℕ) → ((b : ℕ) (bs : List ℕ) → v ≡ b ∷ bs → digit c ≡ false → b ≡ c)
-    → signed (digits_of (c ∷ cs) ++ v) ≡ given (natural (digits_of (c ∷ cs) ++ v)) none (λ m. some (pos m))
+    → signed (digits_of (c ∷ cs) ++ v) ≡ given (natural (digits_of (c ∷ cs) ++ v)) maybe.none (λ m. maybe.some (pos m))
 unfolding digits_of
 plain_piece c cs n v first =
-    pick_both (λ w. signed (w ++ v) ≡ given (natural (w ++ v)) none (λ m. some (pos m))) (digit c) (c ∷ digits_of cs) []
+    pick_both (λ w. signed (w ++ v) ≡ given (natural (w ++ v)) maybe.none (λ m. maybe.some (pos m))) (digit c) (c ∷ digits_of cs) []
     (λ t. signed_plain c (digits_of cs ++ v) n) (λ t. by v (λ b bs q. first b bs q t))
   where
-    by : (v : List ℕ) → ((b : ℕ) (bs : List ℕ) → v ≡ b ∷ bs → b ≡ c) → signed v ≡ given (natural v) none (λ m. some (pos m))
+    by : (v : List ℕ) → ((b : ℕ) (bs : List ℕ) → v ≡ b ∷ bs → b ≡ c) → signed v ≡ given (natural v) maybe.none (λ m. maybe.some (pos m))
     by [] f = refl
     by (b ∷ bs) f = signed_plain b bs (λ q. n (sym (f b bs refl) ∙ q))
 
 -- ---- a number taken apart
 
-abbrev plain : Digits → Signed
-plain digits.None = None
-plain (digits.At n next) = At (pos n) next
+abbrev plain : Option (Parsed ℕ) → Option (Parsed ℤ)
+plain None = None
+plain (Some p) = found (pos p.value) p.next
 
-abbrev negative : Digits → Signed
-negative digits.None = None
-negative (digits.At n next) = pick (eqb n 0) None (At (neg_ℤ (pos n)) next)
+abbrev negative : Option (Parsed ℕ) → Option (Parsed ℤ)
+negative None = None
+negative (Some p) = pick (eqb p.value 0) None (found (neg_ℤ (pos p.value)) p.next)
 
-plain_of : (next : ℕ) (o : Option ℕ)
-    → as_signed (given (given o none (λ n. some (pos n))) none (λ k. pick (signed_fits k) (some (k, next)) none)) ≡ plain (as_digits (given o none (λ n. pick (number_fits n) (some (n, next)) none)))
-plain_of next none = refl
-plain_of next (some n) =
-    elim (number_fits n) as (λ t. as_signed (pick t (some (pos n, next)) none) ≡ plain (as_digits (pick t (some (n, next)) none))) [ true ↦ refl | false ↦ refl ]
+plain_of : (next : ℕ) (o : maybe.Option ℕ)
+    → given (given o maybe.none (λ n. maybe.some (pos n))) None (λ k. pick (signed_fits k) (found k next) None) ≡ plain (given o None (λ n. pick (number_fits n) (found n next) None))
+plain_of next maybe.none = refl
+plain_of next (maybe.some n) = elim (number_fits n) as (λ t. pick t (found (pos n) next) None ≡ plain (pick t (found n next) None)) [ true ↦ refl | false ↦ refl ]
 
-negative_of : (next : ℕ) (o : Option ℕ)
-    → as_signed (given (given o none negated) none (λ k. pick (signed_fits k) (some (k, next)) none)) ≡ negative (as_digits (given o none (λ n. pick (number_fits n) (some (n, next)) none)))
-negative_of next none = refl
-negative_of next (some zero) = refl
-negative_of next (some (suc n)) = by (number_fits (suc n))
+negative_of : (next : ℕ) (o : maybe.Option ℕ)
+    → given (given o maybe.none negated) None (λ k. pick (signed_fits k) (found k next) None) ≡ negative (given o None (λ n. pick (number_fits n) (found n next) None))
+negative_of next maybe.none = refl
+negative_of next (maybe.some zero) = refl
+negative_of next (maybe.some (suc n)) = by (number_fits (suc n))
   where
-    by : (t : Bool) → as_signed (pick t (some (neg_ℤ (pos (suc n)), next)) none) ≡ negative (as_digits (pick t (some (suc n, next)) none))
+    by : (t : Bool) → pick t (found (neg_ℤ (pos (suc n))) next) None ≡ negative (pick t (found (suc n) next) None)
     by true = rw (ne_eqb (suc n) 0 (omega arith))
     by false = refl
 
 -- ---- the number at a position
 
-pub digits_small : (text : List ℕ) (at : ℕ) (r : Digits) → r ≡ digits_at text at → (n next : ℕ) → r ≡ digits.At n next → n ≤ most_number
+pub digits_small : (text : List ℕ) (at : ℕ) (r : Option (Parsed ℕ)) → r ≡ digits_at text at → (p : Parsed ℕ) → r ≡ Some p → p.value ≤ most_number
 unfolding digits_at
-digits_small text at r e n next q = by (natural (digits_of (drop at text))) (sym e ∙ q)
+digits_small text at r e p q = by (natural (digits_of (drop at text))) (sym e ∙ q)
   where
-    fits : (m end : ℕ) (t : Bool) → number_fits m ≡ t → as_digits (pick t (some (m, end)) none) ≡ digits.At n next → n ≤ most_number
-    fits m end true t e = let s : m ≡ n = cc in omega (arith, leb-true m most_number t)
+    fits : (m end : ℕ) (t : Bool) → number_fits m ≡ t → pick t (found m end) None ≡ Some p → p.value ≤ most_number
+    fits m end true t e = let s : found m end ≡ Some p = e in let i : m ≡ p.value = cc in omega (arith, leb-true m most_number t)
     fits m end false t e = clash (cc)
 
-    by : (o : Option ℕ) → as_digits (given o none (λ m. pick (number_fits m) (some (m, at + length (digits_of (drop at text)))) none)) ≡ digits.At n next → n ≤ most_number
-    by none e = clash (cc)
-    by (some m) e = fits m (at + length (digits_of (drop at text))) (number_fits m) refl e
+    by : (o : maybe.Option ℕ) → given o None (λ m. pick (number_fits m) (found m (at + length (digits_of (drop at text)))) None) ≡ Some p → p.value ≤ most_number
+    by maybe.none e = clash (cc)
+    by (maybe.some m) e = fits m (at + length (digits_of (drop at text))) (number_fits m) refl e
 
 module _ (text : List ℕ) (at : ℕ) where
   pub signed_none : length text ≤ at → None ≡ signed_at text at
   unfolding signed_at signed_of
   signed_none h = rw (drop_of_length-le text {i = at} h)
 
-  module _ (h : at < length text) (r : Digits) where
+  module _ (h : at < length text) (r : Option (Parsed ℕ)) where
     module _ (b : get_or text at 0 ≡ 45) (e : r ≡ digits_at text (at + 1)) where
       minus_is : negative r ≡ signed_at text at
       unfolding digits_at signed_at
@@ -130,27 +127,27 @@ module _ (text : List ℕ) (at : ℕ) where
           rw (e, add-one, drop-cons text at 0 h, cut_minus (get_or text at 0) (drop (suc at) text) b, signed_minus (get_or text at 0) (digits_of (drop (suc at) text)) b, s)
           (sym (negative_of (suc at + length (digits_of (drop (suc at) text))) (natural (digits_of (drop (suc at) text)))))
 
-      pub minus_none : r ≡ digits.None → None ≡ signed_at text at
-      minus_none q = rw q at minus_is
+      pub minus_none : (s : Option (Parsed ℤ)) → r ≡ None → s ≡ None → s ≡ signed_at text at
+      minus_none s q d = d ∙ (rw q at minus_is)
 
-      pub minus_zero : (n next : ℕ) → r ≡ digits.At n next → n ≡ 0 → None ≡ signed_at text at
-      minus_zero n next q z = rw (q, eq-eqb n 0 z) at minus_is
+      pub minus_zero : (p : Parsed ℕ) → r ≡ Some p → p.value ≡ 0 → None ≡ signed_at text at
+      minus_zero p q z = rw (q, eq-eqb p.value 0 z) at minus_is
 
-      pub minus_on : (n next : ℕ) (k : ℤ) → r ≡ digits.At n next → (n ≡ 0 → ⊥) → k ≡ neg_ℤ (pos n) → At k next ≡ signed_at text at
-      minus_on n next k q z s = rw s (rw (q, ne_eqb n 0 z) at minus_is)
+      pub minus_on : (p : Parsed ℕ) (k : ℤ) → r ≡ Some p → (p.value ≡ 0 → ⊥) → k ≡ neg_ℤ (pos p.value) → found k p.next ≡ signed_at text at
+      minus_on p k q z s = rw s (rw (q, ne_eqb p.value 0 z) at minus_is)
 
     module _ (b : get_or text at 0 ≡ 45 → ⊥) (e : r ≡ digits_at text at) where
       plain_at : plain r ≡ signed_at text at
       unfolding digits_at signed_at
       plain_at =
           let w = digits_of (get_or text at 0 ∷ drop (suc at) text) in
-          let p : signed w ≡ given (natural w) none (λ m. some (pos m)) = rw append-nil at (plain_piece (get_or text at 0) (drop (suc at) text) b [] (λ c cs q t. clash (cc))) in
+          let p : signed w ≡ given (natural w) maybe.none (λ m. maybe.some (pos m)) = rw append-nil at (plain_piece (get_or text at 0) (drop (suc at) text) b [] (λ c cs q t. clash (cc))) in
           rw (e, drop-cons text at 0 h, cut_plain (get_or text at 0) (drop (suc at) text) b, p) (sym (plain_of (at + length w) (natural w)))
 
-      pub plain_none : r ≡ digits.None → None ≡ signed_at text at
-      plain_none q = rw q at plain_at
+      pub plain_none : (s : Option (Parsed ℤ)) → r ≡ None → s ≡ None → s ≡ signed_at text at
+      plain_none s q d = d ∙ (rw q at plain_at)
 
-      pub plain_on : (n next : ℕ) (k : ℤ) → r ≡ digits.At n next → k ≡ pos n → At k next ≡ signed_at text at
-      plain_on n next k q s = rw s (rw q at plain_at)
+      pub plain_on : (p : Parsed ℕ) → r ≡ Some p → found (to_z w32 p.value) p.next ≡ signed_at text at
+      plain_on p q = rw (plain_is p.value (digits_small text at r e p q)) (rw q at plain_at)
 
-pub ruleset signs = (digits_small, plain_fits, plain_is, opposite_fits, opposite_is, signed_none, minus_none, minus_zero, minus_on, plain_none, plain_on)
+pub ruleset signs = (digits_small, plain_fits, plain_is, opposite_fits, opposite_is, signed_none, minus_none, minus_zero, minus_on, plain_none, plain_on, tt)

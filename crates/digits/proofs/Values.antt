@@ -3,8 +3,10 @@ use Prim.Native.Nat.{ℕ, ◌+◌, ◌*◌, ◌-◌, ◌≤◌, ◌<◌}
 use mathlib.Core.Bool.{Bool, true, false}
 use mathlib.Core.List.{List, [], ◌∷◌, ◌++◌}
 use mathlib.Core.Logic.{◌⊎◌, inl, inr}
-use mathlib.Core.Option.{Option, none, some}
-use mathlib.Core.Path.{◌≡◌, refl}
+use mathlib.Core.Option.{none, some}
+use mathlib.Core.Option as maybe
+use Rattle.std.specs.Prelude.{Option, None, Some}
+use mathlib.Core.Path.{◌≡◌, refl, subst}
 use native.Mathlib.Omega.{arith}
 use native.Mathlib.Numerals.{add-one}
 use lib.Dec.{leb, eqb}
@@ -18,7 +20,7 @@ use Rattle.laws.proofs.Ways.{on_true, on_false}
 use Rattle.laws.proofs.Picks.{clash, pick_both}
 use Rattle.digits.specs.Digits.{digit, digits_of, digit_at}
 
-pub none_or : {A : Type 0} (t : Bool) (o : Option A) → o ≡ none → pick t o none ≡ none
+pub none_or : {A : Type 0} (t : Bool) (o : maybe.Option A) → o ≡ none → pick t o none ≡ none
 none_or true o e = e
 none_or false o e = refl
 
@@ -31,44 +33,55 @@ digit_or b =
       | inr l ↦ elim (lt_or 57 b) [ inl u ↦ inr (rw (le-leb 48 b l, lt-leb b 57 u)) | inr u ↦ inl (l, u) ]
     ]
 
--- what stands at a position is a digit, or the text has no digits from there on
-pub record There (text : List ℕ) (at : ℕ) : Type 0 where
+-- a digit stands at a position, and the digits of the text go on after it
+pub record There (text : List ℕ) (at d : ℕ) : Type 0 where
   pub within : at < length text
-  pub small : digit_at text at < 10
-  pub rest : digits_of (drop at text) ≡ (48 + digit_at text at) ∷ digits_of (drop (at + 1) text)
+  pub small : d < 10
+  pub byte : 48 + d ≡ get_or text at 0
+  pub rest : digits_of (drop at text) ≡ (48 + d) ∷ digits_of (drop (at + 1) text)
 
-none_of : (b : ℕ) → digit b ≡ false → pick (leb 48 b) (pick (leb b 57) (b - 48) 10) 10 ≡ 10
+none_of : (b : ℕ) → digit b ≡ false → ◌≡◌ {A = Option ℕ} (pick (leb 48 b) (pick (leb b 57) (Some (b - 48)) None) None) None
 none_of b e = by (leb 48 b) (leb b 57) e
   where
-    by : (l u : Bool) → pick l u false ≡ false → pick l (pick u (b - 48) 10) 10 ≡ 10
+    by : (l u : Bool) → pick l u false ≡ false → ◌≡◌ {A = Option ℕ} (pick l (pick u (Some (b - 48)) None) None) None
     by true true e = clash (cc)
     by true false e = refl
     by false u e = refl
 
 module _ (text : List ℕ) (at : ℕ) where
-  there : There text at ⊎ ((digit_at text at ≡ 10) × (digits_of (drop at text) ≡ []))
+  pub there : ((d : ℕ) × ((digit_at text at ≡ Some d) × There text at d)) ⊎ ((digit_at text at ≡ None) × (digits_of (drop at text) ≡ []))
   unfolding digit_at digits_of
   there =
       elim (lt_or at (length text)) [
         | inl l ↦ elim (digit_or (get_or text at 0)) [
           | inl d ↦
-              let e : digit_at text at ≡ get_or text at 0 - 48 = rw (lt-ltb at (length text) l, le-leb 48 (get_or text at 0) d.0, le-leb (get_or text at 0) 57 d.1) in
-              let f : 48 + digit_at text at ≡ get_or text at 0 = omega arith in
-              inl (record {
-                within = l;
-                small = omega arith;
-                rest = rw f (rw (add-one, drop-cons text at 0 l, digits_of, le-leb 48 (get_or text at 0) d.0, le-leb (get_or text at 0) 57 d.1));
-              })
+              let f : 48 + (get_or text at 0 - 48) ≡ get_or text at 0 = omega (arith, d.0) in
+              inl (
+                get_or text at 0 - 48,
+                (
+                  rw (lt-ltb at (length text) l, le-leb 48 (get_or text at 0) d.0, le-leb (get_or text at 0) 57 d.1),
+                  record {
+                    within = l;
+                    small = omega (arith, d.1);
+                    byte = f;
+                    rest = rw f (rw (add-one, drop-cons text at 0 l, digits_of, le-leb 48 (get_or text at 0) d.0, le-leb (get_or text at 0) 57 d.1));
+                  },
+                ),
+              )
           | inr d ↦ inr (rw (lt-ltb at (length text) l) (none_of (get_or text at 0) d), rw (drop-cons text at 0 l, digits_of, d))
         ]
         | inr l ↦ inr (rw (le-ltb at (length text) l), rw (drop_of_length-le text {i = at} l))
       ]
 
-  pub digits_end : 10 ≤ digit_at text at → digits_of (drop at text) ≡ []
-  digits_end h = elim there [ inl t ↦ absurd (omega arith) | inr e ↦ e.1 ]
+  pub digits_end : digit_at text at ≡ None → digits_of (drop at text) ≡ []
+  digits_end h = elim there [ inl t ↦ clash (cc (t.1.0)) | inr e ↦ e.1 ]
 
-  pub digits_there : digit_at text at < 10 → There text at
-  digits_there h = elim there [ inl t ↦ t | inr e ↦ absurd (omega (arith, e.0)) ]
+  pub digits_there : (d : ℕ) → digit_at text at ≡ Some d → There text at d
+  digits_there d h =
+      elim there [
+        | inl t ↦ let s : t.0 ≡ d = cc (t.1.0) in subst (There text at) s t.1.1
+        | inr e ↦ clash (cc (e.0))
+      ]
 
 -- ---- values
 
@@ -106,7 +119,7 @@ value_not (c ∷ w) bs b sum e =
     (none_or (leb c 57) (value (10 * sum + (c - 48)) (w ++ (b ∷ bs))) (value_not w bs b (10 * sum + (c - 48)) e))
 
 -- a number has the value of its digits, or none
-pub natural_or : (P : Option ℕ → Type 0) (w : List ℕ) → P none → P (value 0 w) → P (natural w)
+pub natural_or : (P : maybe.Option ℕ → Type 0) (w : List ℕ) → P none → P (value 0 w) → P (natural w)
 natural_or P [] n v = n
 natural_or P (b ∷ []) n v = v
 natural_or P (b ∷ (c ∷ cs)) n v = elim (eqb b 48) as (λ t. P (pick t none (value 0 (b ∷ (c ∷ cs))))) [ true ↦ n | false ↦ v ]

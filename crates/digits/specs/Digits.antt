@@ -1,13 +1,10 @@
 -- A number at a position of a text: the longest piece that has its form, read as a word of a script is read.
-use Rattle.std.specs.Prelude.{ℕ, suc, ◌+◌, ◌-◌, Bool, false, List, [], ◌∷◌, ℤ, pos, negsuc, length, get_or, drop, eqb, leb, ltb}
-use Rattle.std.proofs.Math.Option.{Option, none, some}
+use Rattle.std.specs.Prelude.{ℕ, suc, ◌+◌, ◌-◌, Bool, false, List, [], ◌∷◌, ℤ, pos, negsuc, length, get_or, drop, eqb, leb, ltb, Option, None, Some}
+use Rattle.std.proofs.Math.Option as maybe
 use Rattle.catalogue.specs.Tests.{pick, given}
 use Rattle.catalogue.specs.Text.{minus, zero_digit}
 use Rattle.catalogue.specs.Script.{natural, signed}
-use Rattle.digits.specs.declared.numbers.Digits.{Digits}
-use Rattle.digits.specs.declared.numbers.Digits.TheVariants as digits
-use Rattle.digits.specs.declared.signed.Signed.{Signed}
-use Rattle.digits.specs.declared.signed.Signed.TheVariants as sign
+use Rattle.digits.specs.declared.numbers.Parsed.{Parsed}
 
 -- ---- the piece
 
@@ -26,9 +23,13 @@ signed_of (b ∷ bs) = pick (eqb b minus) (b ∷ digits_of bs) (digits_of (b ∷
 
 -- ---- what it is read as
 
+-- a value that was read, and where the text goes on
+abbrev pub found : {X : Type 0} → X → ℕ → Option (Parsed X)
+found x next = Some (record { value = x; next = next })
+
 -- the value of a piece that begins at a position, and the index of the first byte after it
-abbrev pub piece_in : {X : Type 0} → (List ℕ → Option X) → (X → Bool) → ℕ → List ℕ → Option (X × ℕ)
-piece_in reading fits at w = given (reading w) none (λ x. pick (fits x) (some (x, at + length w)) none)
+abbrev pub piece_in : {X : Type 0} → (List ℕ → maybe.Option X) → (X → Bool) → ℕ → List ℕ → Option (Parsed X)
+piece_in reading fits at w = given (reading w) None (λ x. pick (fits x) (found x (at + length w)) None)
 
 -- no number that is read is greater
 abbrev pub most_number : ℕ
@@ -41,33 +42,22 @@ abbrev pub signed_fits : ℤ → Bool
 signed_fits (pos n) = number_fits n
 signed_fits (negsuc n) = number_fits (suc n)
 
-abbrev pub as_digits : Option (ℕ × ℕ) → Digits
-as_digits none = digits.None
-as_digits (some r) = digits.At r.0 r.1
+unfoldable pub digits_at : List ℕ → ℕ → Option (Parsed ℕ)
+digits_at text at = piece_in natural number_fits at (digits_of (drop at text))
 
-unfoldable pub digits_at : List ℕ → ℕ → Digits
-digits_at text at = as_digits (piece_in natural number_fits at (digits_of (drop at text)))
+unfoldable pub signed_at : List ℕ → ℕ → Option (Parsed ℤ)
+signed_at text at = piece_in signed signed_fits at (signed_of (drop at text))
 
-abbrev pub as_signed : Option (ℤ × ℕ) → Signed
-as_signed none = sign.None
-as_signed (some r) = sign.At r.0 r.1
-
-unfoldable pub signed_at : List ℕ → ℕ → Signed
-signed_at text at = as_signed (piece_in signed signed_fits at (signed_of (drop at text)))
-
-abbrev pub at_digits : {A : Type 0} → Digits → A → (ℕ → ℕ → A) → A
-at_digits digits.None other f = other
-at_digits (digits.At n next) other f = f n next
-
-abbrev pub at_signed : {A : Type 0} → Signed → A → (ℤ → ℕ → A) → A
-at_signed sign.None other f = other
-at_signed (sign.At k next) other f = f k next
+-- what is made of a value, or something else where there is none
+abbrev pub at_some : {A B : Type 0} → Option A → B → (A → B) → B
+at_some None other f = other
+at_some (Some a) other f = f a
 
 -- ---- one digit
 
--- the digit at a position, or 10 where none stands
-unfoldable pub digit_at : List ℕ → ℕ → ℕ
+-- the digit at a position, if one stands there
+unfoldable pub digit_at : List ℕ → ℕ → Option ℕ
 digit_at text at =
     pick (ltb at (length text))
-    (pick (leb zero_digit (get_or text at 0)) (pick (leb (get_or text at 0) (zero_digit + 9)) (get_or text at 0 - zero_digit) 10) 10)
-    10
+    (pick (leb zero_digit (get_or text at 0)) (pick (leb (get_or text at 0) (zero_digit + 9)) (Some (get_or text at 0 - zero_digit)) None) None)
+    None

@@ -2,53 +2,53 @@
 ghost use Rattle.std.specs.Prelude.{◌≡◌};
 ghost use Rattle.digits.specs.Digits.{digit_at, digits_at};
 
-// The value and the index of the first byte after the digits. A number above 2147483647 is none.
+// A value that was read, and the index of the first byte after it.
 #[derive(Clone, Copy)]
-pub enum Digits {
-    None,
-    At { value: u32, next: usize },
+pub struct Parsed<T> {
+    pub value: T,
+    pub next: usize,
 }
 
-// The digit at a position, or 10 where no digit stands.
-fn digit_at(text: &[u8], at: usize) -> u64
+// The digit at a position, if one stands there.
+#[tactic(auto, using(crate::proofs::Values::digit_cases), unfolding(crate::specs::Digits::digit_at))]
+fn digit_at(text: &[u8], at: usize) -> Option<u64>
     ensures { result ≡ digit_at text.now at }
 {
     if at < text.len() {
         let b = text[at];
         if 48 <= b {
             if b <= 57 {
-                return (b - 48) as u64;
+                return Some((b - 48) as u64);
             }
         }
     }
-    10
+    None
 }
 
-pub fn read_digits(text: &[u8], at: usize) -> Digits
+// A number above 2147483647 is none.
+#[tactic(auto, using(crate::proofs::Readings::readings))]
+pub fn read_digits(text: &[u8], at: usize) -> Option<Parsed<u32>>
     ensures { result ≡ digits_at text.now at }
 {
-    let first = digit_at(text, at);
-    let mut digit = first;
     let mut sum: u64 = 0;
     let mut place = at;
-    while digit < 10 {
+    // By position, and not by an iterator: where the digits end is a part of the answer.
+    while let Some(digit) = digit_at(text, place) {
         sum = 10 * sum + digit;
         if 2147483647 < sum {
-            return Digits::None;
+            return None;
         }
         place += 1;
-        digit = digit_at(text, place);
     }
-    let value = sum as u32;
     let size = place - at;
     if size == 0 {
-        return Digits::None;
+        return None;
     }
-    if size == 1 {
-        return Digits::At { value, next: place };
+    if text[at] == 48 && 1 < size {
+        return None;
     }
-    if first == 0 {
-        return Digits::None;
-    }
-    Digits::At { value, next: place }
+    Some(Parsed {
+        value: sum as u32,
+        next: place,
+    })
 }

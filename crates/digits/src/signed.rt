@@ -2,38 +2,29 @@
 ghost use Rattle.std.specs.Prelude.{◌≡◌};
 ghost use Rattle.digits.specs.Digits.{signed_at};
 
-use crate::numbers::{Digits, read_digits};
+use crate::numbers::{Parsed, read_digits};
 
 // As for a number without a sign.
-#[derive(Clone, Copy)]
-pub enum Signed {
-    None,
-    At { value: i32, next: usize },
-}
-
-pub fn read_signed(text: &[u8], at: usize) -> Signed
+#[tactic(auto, using(crate::proofs::Signs::signs))]
+pub fn read_signed(text: &[u8], at: usize) -> Option<Parsed<i32>>
     ensures { result ≡ signed_at text.now at }
 {
     if text.len() <= at {
-        return Signed::None;
+        return None;
     }
     if text[at] == 45 {
-        let Digits::At { value, next } = read_digits(text, at + 1) else {
-            return Signed::None;
-        };
+        let Parsed { value, next } = read_digits(text, at + 1)?;
         if value == 0 {
-            return Signed::None;
+            return None;
         }
-        return Signed::At {
+        return Some(Parsed {
             value: -(value as i32),
             next,
-        };
+        });
     }
-    let Digits::At { value, next } = read_digits(text, at) else {
-        return Signed::None;
-    };
-    Signed::At {
+    let Parsed { value, next } = read_digits(text, at)?;
+    Some(Parsed {
         value: value as i32,
         next,
-    }
+    })
 }

@@ -1,22 +1,27 @@
-// Settling AddE and RemE, by the code.
+// Settling AddE and RemE, by the code, which is a number as the user asks.
 ghost use Rattle.std.specs.Prelude.{◌≡◌};
-ghost use Rattle.catalogue.specs.Lent.{Sized, catalogue_in};
 ghost use Rattle.catalogue.specs.Numbers.{marked};
 ghost use Rattle.catalogue.specs.Steps.Edges.{insert, new_edge, settle_add_edge, settle_remove_edge, settle_edge};
 ghost use Rattle.catalogue.specs.declared.writes.Write.TheVariants.{EdgeLink};
+ghost use Rattle.memory.specs.Memories.{held};
 
-use catalogue::links::Room;
+use catalogue::links::{ADDED, MARKED, Room, TRANSIT};
 use catalogue::steps::{Decision, Landed};
 use catalogue::workers::{Ends, Place, Prev};
 use catalogue::writes::Write;
 use looks::decisions::reply;
+use memory::Lent;
 use memory::reads::edge_room;
 
 // The write that gives an edge its mark, its link kept.
 pub fn mark_edge(edge: u16, next: u16) -> Write
     ensures { result ≡ EdgeLink edge next marked }
 {
-    Write::EdgeLink { edge, next, tag: 1 }
+    Write::EdgeLink {
+        edge,
+        next,
+        tag: MARKED,
+    }
 }
 
 // The write that puts a new edge after p, whose tag is kept.
@@ -61,26 +66,27 @@ fn new_edge(left: Room, ends: Ends, p: Prev, c: u16, kept: u8) -> Decision
 }
 
 // AddE: the key is there, on trial or added; or a new edge is wanted.
-fn settle_add_edge(keys: &[i32], words: &[u32], ends: Ends, p: Prev, c: u16, at: Landed) -> Decision
-    requires { Sized keys.now words.now }
-    ensures { result ≡ settle_add_edge (catalogue_in keys.now words.now) ends p c at }
+#[tactic(auto, unfolding(catalogue::specs::Steps::Edges::settle_add_edge))]
+fn settle_add_edge(lent: Lent, ends: Ends, p: Prev, c: u16, at: Landed) -> Decision
+    ensures { result ≡ settle_add_edge (held lent.entry) ends p c at }
 {
     if at.equal {
-        if at.tag == 2 {
+        if at.tag == TRANSIT {
             return reply(7);
         }
         return reply(4);
     }
-    let left = edge_room(words);
+    let left = edge_room(lent.words);
     new_edge(left, ends, p, c, at.kept)
 }
 
 // RemE: an ADDED edge with the key gets its mark.
+#[tactic(auto, unfolding(catalogue::specs::Steps::Edges::settle_remove_edge))]
 fn settle_remove_edge(c: u16, at: Landed) -> Decision
     ensures { result ≡ settle_remove_edge c at }
 {
     if at.equal {
-        if at.tag == 3 {
+        if at.tag == ADDED {
             let write = mark_edge(c, at.next);
             return Decision::Reply { number: 1, write };
         }
@@ -89,20 +95,12 @@ fn settle_remove_edge(c: u16, at: Landed) -> Decision
     reply(5)
 }
 
-pub fn settle_edge(
-    keys: &[i32],
-    words: &[u32],
-    code: u32,
-    ends: Ends,
-    p: Prev,
-    c: u16,
-    at: Landed,
-) -> Decision
-    requires { Sized keys.now words.now }
-    ensures { result ≡ settle_edge (catalogue_in keys.now words.now) code ends p c at }
+#[tactic(auto, unfolding(catalogue::specs::Steps::Edges::settle_edge))]
+pub fn settle_edge(lent: Lent, code: u32, ends: Ends, p: Prev, c: u16, at: Landed) -> Decision
+    ensures { result ≡ settle_edge (held lent.entry) code ends p c at }
 {
     match code {
-        4 => settle_add_edge(keys, words, ends, p, c, at),
+        4 => settle_add_edge(lent, ends, p, c, at),
         5 => settle_remove_edge(c, at),
         _ => Decision::Code,
     }

@@ -1,18 +1,19 @@
 // One step of AddE or RemE.
 ghost use Rattle.std.specs.Prelude.{◌≡◌};
-ghost use Rattle.catalogue.specs.Lent.{Sized, catalogue_in};
 ghost use Rattle.catalogue.specs.Steps.Edges.{relink, restart, step_edge};
 ghost use Rattle.catalogue.specs.Steps.Places.{edge_place};
 ghost use Rattle.catalogue.specs.declared.steps.Decision.TheVariants.{Going};
+ghost use Rattle.memory.specs.Memories.{held};
 
 use crate::look::look_at_edge;
 use crate::settle::{mark_edge, settle_edge};
-use catalogue::links::EdgeLink;
+use catalogue::links::Link;
 use catalogue::steps::{Decision, EdgeSeen};
 use catalogue::workers::{Ends, Prev};
 use catalogue::writes::Write;
 use looks::decisions::reply;
 use looks::places::edge_place;
+use memory::Lent;
 use memory::reads::first_link;
 
 // The write that leads p past c, p's tag kept.
@@ -33,43 +34,39 @@ fn relink(u: u8, p: Prev, kept: u8, next: u16) -> Write
 fn go_on(code: u32, ends: Ends, p: Prev, c: u16, write: Write) -> Decision
     ensures { result ≡ Going (edge_place code ends p c) write }
 {
-    let place = edge_place(code, ends, p, c);
-    Decision::Going { next: place, write }
+    Decision::Going {
+        next: edge_place(code, ends, p, c),
+        write,
+    }
 }
 
 // At the first-edge link of u again.
-fn restart(keys: &[i32], words: &[u32], code: u32, ends: Ends) -> Decision
-    requires { Sized keys.now words.now }
-    ensures { result ≡ restart (catalogue_in keys.now words.now) code ends }
+#[tactic(auto, unfolding(catalogue::specs::Steps::Edges::restart))]
+fn restart(lent: Lent, code: u32, ends: Ends) -> Decision
+    ensures { result ≡ restart (held lent.entry) code ends }
 {
-    let EdgeLink::At { next, tag: _ } = first_link(words, ends.u) else {
+    let Some(Link { next, .. }) = first_link(lent.words, ends.u) else {
         return Decision::Torn;
     };
     go_on(code, ends, Prev::First, next, Write::Nothing)
 }
 
 // One step of AddE (code 4) or RemE (code 5) at p and c.
-pub fn step_edge(keys: &[i32], words: &[u32], code: u32, ends: Ends, p: Prev, c: u16) -> Decision
-    requires { Sized keys.now words.now }
-    ensures { result ≡ step_edge (catalogue_in keys.now words.now) code ends p c }
+#[tactic(auto, unfolding(catalogue::specs::Steps::Edges::step_edge))]
+pub fn step_edge(lent: Lent, code: u32, ends: Ends, p: Prev, c: u16) -> Decision
+    ensures { result ≡ step_edge (held lent.entry) code ends p c }
 {
-    let seen = look_at_edge(keys, words, ends, p, c);
-    match seen {
+    match look_at_edge(lent, ends, p, c) {
         EdgeSeen::Torn => Decision::Torn,
         EdgeSeen::Dead => reply(3),
-        EdgeSeen::Again => restart(keys, words, code, ends),
+        EdgeSeen::Again => restart(lent, code, ends),
         EdgeSeen::Unlinks { kept, next } => {
-            let write = relink(ends.u, p, kept, next);
-            go_on(code, ends, p, next, write)
+            go_on(code, ends, p, next, relink(ends.u, p, kept, next))
         }
-        EdgeSeen::Marks { next } => {
-            let write = mark_edge(c, next);
-            go_on(code, ends, p, c, write)
-        }
+        EdgeSeen::Marks { next } => go_on(code, ends, p, c, mark_edge(c, next)),
         EdgeSeen::Onward { next } => {
-            let behind = Prev::Edge { edge: c };
-            go_on(code, ends, behind, next, Write::Nothing)
+            go_on(code, ends, Prev::Edge { edge: c }, next, Write::Nothing)
         }
-        EdgeSeen::Settles { at } => settle_edge(keys, words, code, ends, p, c, at),
+        EdgeSeen::Settles { at } => settle_edge(lent, code, ends, p, c, at),
     }
 }

@@ -1,16 +1,18 @@
 // Finding u and v, the two ends of an edge, by the looks of ConV.
 ghost use Rattle.std.specs.Prelude.{◌≡◌};
-ghost use Rattle.catalogue.specs.Lent.{Sized, catalogue_in};
 ghost use Rattle.catalogue.specs.Steps.Finding.{not_found, found_u, found_v, step_find_u, step_find_v};
+ghost use Rattle.memory.specs.Memories.{held};
 
 use crate::vertex::look_for;
-use catalogue::links::{EdgeLink, VertexLink};
+use catalogue::links::Link;
 use catalogue::steps::{Decision, VertexFound};
 use catalogue::workers::{Ends, Pair};
 use looks::decisions::{go_to, reply};
 use looks::places::{edges_place, find_u_place, find_v_place};
+use memory::Lent;
 use memory::reads::{first_link, vertex_link};
 
+#[tactic(auto, unfolding(catalogue::specs::Steps::Finding::not_found))]
 fn not_found(code: u32) -> u8
     ensures { result ≡ not_found code }
 {
@@ -21,65 +23,49 @@ fn not_found(code: u32) -> u8
 }
 
 // u is found: v is looked for from the head's next on.
-fn found_u(keys: &[i32], words: &[u32], code: u32, pair: Pair, u: u8) -> Decision
-    requires { Sized keys.now words.now }
-    ensures { result ≡ found_u (catalogue_in keys.now words.now) code pair u }
+#[tactic(auto, unfolding(catalogue::specs::Steps::Finding::found_u))]
+fn found_u(lent: Lent, code: u32, pair: Pair, u: u8) -> Decision
+    ensures { result ≡ found_u (held lent.entry) code pair u }
 {
-    let VertexLink::At { next, tag: _ } = vertex_link(words, 0) else {
+    let Some(Link { next, .. }) = vertex_link(lent.words, 0) else {
         return Decision::Torn;
     };
-    let place = find_v_place(code, pair, u, next);
-    go_to(place)
+    go_to(find_v_place(code, pair, u, next))
 }
 
 // One step of finding u for k.
-pub fn step_find_u(keys: &[i32], words: &[u32], code: u32, pair: Pair, c: u8) -> Decision
-    requires { Sized keys.now words.now }
-    ensures { result ≡ step_find_u (catalogue_in keys.now words.now) code pair c }
+#[tactic(auto, unfolding(catalogue::specs::Steps::Finding::step_find_u))]
+pub fn step_find_u(lent: Lent, code: u32, pair: Pair, c: u8) -> Decision
+    ensures { result ≡ step_find_u (held lent.entry) code pair c }
 {
-    let found = look_for(keys, words, pair.k, c);
-    match found {
+    match look_for(lent, pair.k, c) {
         VertexFound::Torn => Decision::Torn,
-        VertexFound::Onward { next } => {
-            let place = find_u_place(code, pair, next);
-            go_to(place)
-        }
-        VertexFound::Found => found_u(keys, words, code, pair, c),
-        VertexFound::Missing => {
-            let number = not_found(code);
-            reply(number)
-        }
+        VertexFound::Onward { next } => go_to(find_u_place(code, pair, next)),
+        VertexFound::Found => found_u(lent, code, pair, c),
+        VertexFound::Missing => reply(not_found(code)),
     }
 }
 
 // v is found: the edges of u are looked at from its first-edge link on.
-fn found_v(keys: &[i32], words: &[u32], code: u32, ends: Ends) -> Decision
-    requires { Sized keys.now words.now }
-    ensures { result ≡ found_v (catalogue_in keys.now words.now) code ends }
+#[tactic(auto, unfolding(catalogue::specs::Steps::Finding::found_v))]
+fn found_v(lent: Lent, code: u32, ends: Ends) -> Decision
+    ensures { result ≡ found_v (held lent.entry) code ends }
 {
-    let EdgeLink::At { next, tag: _ } = first_link(words, ends.u) else {
+    let Some(Link { next, .. }) = first_link(lent.words, ends.u) else {
         return Decision::Torn;
     };
-    let place = edges_place(code, ends, next);
-    go_to(place)
+    go_to(edges_place(code, ends, next))
 }
 
 // One step of finding v for l.
-pub fn step_find_v(keys: &[i32], words: &[u32], code: u32, pair: Pair, u: u8, c: u8) -> Decision
-    requires { Sized keys.now words.now }
-    ensures { result ≡ step_find_v (catalogue_in keys.now words.now) code pair u c }
+#[tactic(auto, unfolding(catalogue::specs::Steps::Finding::step_find_v))]
+pub fn step_find_v(lent: Lent, code: u32, pair: Pair, u: u8, c: u8) -> Decision
+    ensures { result ≡ step_find_v (held lent.entry) code pair u c }
 {
-    let found = look_for(keys, words, pair.l, c);
-    match found {
+    match look_for(lent, pair.l, c) {
         VertexFound::Torn => Decision::Torn,
-        VertexFound::Onward { next } => {
-            let place = find_v_place(code, pair, u, next);
-            go_to(place)
-        }
-        VertexFound::Found => found_v(keys, words, code, Ends { pair, u, v: c }),
-        VertexFound::Missing => {
-            let number = not_found(code);
-            reply(number)
-        }
+        VertexFound::Onward { next } => go_to(find_v_place(code, pair, u, next)),
+        VertexFound::Found => found_v(lent, code, Ends { pair, u, v: c }),
+        VertexFound::Missing => reply(not_found(code)),
     }
 }

@@ -37,7 +37,9 @@ fn main() {
     let mut words = [0; WORDS_SIZE];
     let mut new_keys = [0; KEYS_SIZE];
     let mut new_words = [0; WORDS_SIZE];
-    fresh(&mut keys, &mut words);
+    if fresh(&mut keys, &mut words).is_err() {
+        return;
+    }
     fill(&mut keys, &mut words);
     sweep_and_list(&keys, &words, &mut new_keys, &mut new_words);
     thin_out(&mut keys, &mut words);

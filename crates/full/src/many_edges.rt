@@ -11,9 +11,8 @@ const APART: u16 = 14;
 // On the edges of the n-th vertex.
 fn on_edges_of(keys: &mut [i32], words: &mut [u32], before: Tally, code: u32, n: u16) -> Tally {
     let mut tally = before;
-    let mut target = n;
-    while APART <= target {
-        target -= APART;
+    for below in 1..=n / APART {
+        let target = n - APART * below;
         let performed = perform(keys, words, code, key(n), key(target));
         tally = counted(tally, performed);
     }
@@ -22,14 +21,11 @@ fn on_edges_of(keys: &mut [i32], words: &mut [u32], before: Tally, code: u32, n:
 
 // On the edges of every by-th vertex.
 pub fn on_edges(keys: &mut [i32], words: &mut [u32], code: u32, by: u16) -> Tally
-    requires by_nonzero { 0 < by }
-    requires by_bound { by < 254 }
+    requires { 0 < by }
 {
     let mut tally = none();
-    let mut n = 0;
-    while n < VERTICES {
+    for n in (0..VERTICES).step_by(by as usize) {
         tally = on_edges_of(keys, words, tally, code, n);
-        n += by;
     }
     tally
 }

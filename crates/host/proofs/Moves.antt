@@ -7,6 +7,7 @@ use mathlib.Core.Path.{◌≡◌, refl, sym, ◌∙◌, ap, subst}
 use native.Mathlib.Omega.{arith}
 use lib.ListN.{get_or, set, get_or-map}
 use lib.Seq.{set-get_or}
+use Rattle.std.proofs.Common.{Result, Ok, Err}
 use Rattle.catalogue.specs.Tests.{pick}
 use Rattle.catalogue.specs.Workers.{blank, worker_at, put}
 use Rattle.catalogue.specs.Lent as lent
@@ -14,7 +15,6 @@ use Rattle.catalogue.specs.Steps.Decide.{stepped}
 use Rattle.catalogue.specs.declared.steps.Decision.{Decision}
 use Rattle.catalogue.specs.declared.steps.Decision.TheVariants.{Torn, Code, Going, Begins, Keeps, Meets, Takes, Reply}
 use Rattle.catalogue.specs.declared.answers.Answer.{Answer}
-use Rattle.catalogue.specs.declared.answers.Answer.TheVariants as answer
 use Rattle.catalogue.specs.declared.answers.Outcome.{Outcome}
 use Rattle.catalogue.specs.declared.answers.Refusal.{Refusal}
 use Rattle.catalogue.specs.declared.workers.Table.{Table}
@@ -25,24 +25,8 @@ use Rattle.border.specs.declared.kept.Kept.{Kept}
 use Rattle.border.specs.declared.kept.Record.{Record}
 use Rattle.border.proofs.Places.{worker_back}
 use Rattle.host.specs.Promised.{refuses, left_of, Leaves}
-use Rattle.host.specs.Moves.{refused, moved, settled}
+use Rattle.host.specs.Moves.{refused, moved, or_refused}
 use Rattle.host.specs.declared.one.Moved.{Moved}
-
--- ---- what the code makes
-
-pub refused_is : (r : Record) (why : Refusal) (told : ℕ) → told ≡ packed_answer (answer.Refused why) → ◌≡◌ {A = Moved} (record { kept = r; told = told }) (refused r why)
-unfolding refused
-refused_is r why told e = ap (λ (n : ℕ). record { kept = r; told = n }) e
-
-pub moved_is : (w : Worker) (a : Answer) (kept : Record) (told : ℕ) → kept ≡ record_of w → told ≡ packed_answer a → ◌≡◌ {A = Moved} (record { kept = kept; told = told }) (moved w a)
-unfolding moved
-moved_is w a kept told e f = λ i. record { kept = e i; told = f i }
-
--- an answer that the code took apart
-pub settled_at : (r : Record) (w : Worker) (a s : Answer) (x : Moved) → a ≡ s → x ≡ settled r w s → x ≡ settled r w a
-settled_at r w a s x e h = h ∙ ap (settled r w) (sym e)
-
-pub ruleset makes = (refl, refused_is, moved_is, settled_at)
 
 -- ---- the record in its table
 
@@ -76,11 +60,16 @@ module _ (t : Kept) (n : ℕ) where
   record_put w = ap (λ (rs : List Record). record { count = t.count; records = rs }) (set_read worker_in record_of blank t.records n w)
 
   -- an answer that is no refusal writes it down
-  pub left_put : (w : Worker) (a : Answer) → refuses a ≡ false → put_record t n (record_of w) ≡ left_of t n (record { table = put (table_in t) n w; answer = a })
+  pub left_put : (w : Worker) (a : Result Answer Refusal) → refuses a ≡ false → put_record t n (record_of w) ≡ left_of t n (record { table = put (table_in t) n w; answer = a })
   left_put w a kept = record_put w ∙ ap (λ (b : Bool). pick b t (put_record t n (record_of (worker_at (put (table_in t) n w) n)))) (sym kept)
 
 pub slot_is : (n : ℕ) → n < 8 → slot n ≡ n
 slot_is n h = omega (arith, h)
+
+-- a step that has decided, as the call goes on from it
+abbrev pub settled : Worker → Result Answer Refusal → Result Moved Refusal
+settled w (Ok a) = Ok (moved w a)
+settled w (Err why) = Err why
 
 -- ---- what is stored back, for an outcome of the call on the table
 
@@ -106,22 +95,20 @@ module _ (t : Kept) (n : ℕ) (r : Record) (there : record_at t (slot n) ≡ r) 
     pub worker_is : worker_in r ≡ worker_at (table_in t) n
     worker_is = ap worker_in (sym there) ∙ worker_there t (slot n) ∙ ap (worker_at (table_in t)) (slot_is n below)
 
-    pub stores_moved : (w : Worker) (a : Answer) → refuses a ≡ false → Stores t n (moved w a) (record { table = put (table_in t) n w; answer = a })
+    pub stores_moved : (w : Worker) (a : Answer) → Stores t n (moved w a) (record { table = put (table_in t) n w; answer = Ok a })
     unfolding moved
-    stores_moved w a kept = record {
+    stores_moved w a = record {
       tells = refl;
       leaves = (
-        ap (λ (i : ℕ). put_record t i (record_of w)) (slot_is n below) ∙ left_put t n w a kept,
+        ap (λ (i : ℕ). put_record t i (record_of w)) (slot_is n below) ∙ left_put t n w (Ok a) refl,
         worker_put t (slot n) w ∙ ap (λ (i : ℕ). put (table_in t) i w) (slot_is n below),
       );
     }
 
     -- a refusal has left the worker as it was
-    pub stores_settled : (w : Worker) (a : Answer) → (refuses a ≡ true → w ≡ worker_at (table_in t) n) → Stores t n (settled r w a) (record { table = put (table_in t) n w; answer = a })
-    unfolding settled
-    stores_settled w (answer.Going met) same = stores_moved w (answer.Going met) refl
-    stores_settled w (answer.Reply number) same = stores_moved w (answer.Reply number) refl
-    stores_settled w (answer.Refused why) same =
+    pub stores_settled : (w : Worker) (a : Result Answer Refusal) → (refuses a ≡ true → w ≡ worker_at (table_in t) n) → Stores t n (or_refused r (settled w a)) (record { table = put (table_in t) n w; answer = a })
+    stores_settled w (Ok a) same = stores_moved w a
+    stores_settled w (Err why) same =
         let h = stores_refused why in
         record { tells = h.tells; leaves = (h.leaves.0, h.leaves.1 ∙ sym (ap (put (table_in t) n) (same refl) ∙ put_back (table_in t) n)) }
 

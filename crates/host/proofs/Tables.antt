@@ -1,13 +1,12 @@
 -- A table as it is written down: the ways out of making one of idle workers.
 use Prim.Native.Nat.{ℕ}
-use mathlib.Core.Bool.{Bool, true, false}
-use mathlib.Core.Path.{◌≡◌, sym, ◌∙◌, ap}
+use mathlib.Core.Bool.{true}
+use mathlib.Core.Path.{◌≡◌, ◌∙◌, ap}
 use lib.ListN.{replicate}
+use Rattle.std.proofs.Common.{Ok}
 use Rattle.catalogue.specs.Tests.{one_to}
 use Rattle.catalogue.specs.Workers.{idle, idle_table}
 use Rattle.catalogue.specs.Calls.{count_fits}
-use Rattle.catalogue.specs.declared.answers.Made.TheVariants.{Done, Refused}
-use Rattle.catalogue.specs.declared.answers.Refusal.TheVariants as refusal
 use Rattle.catalogue.specs.declared.workers.Worker.{Worker}
 use Rattle.border.specs.Kept.{table_in, idle_kept}
 use Rattle.border.specs.Packing.{packed_made}
@@ -19,11 +18,7 @@ use Rattle.host.specs.Promised.{MakesTable}
 idle_in : (count : ℕ) → table_in (idle_kept count) ≡ idle_table count
 idle_in count = ap (λ (w : Worker). record { count = count; workers = replicate 8 w }) (worker_back idle)
 
-module _ (t : Kept) (count : ℕ) (fits : Bool) (e : fits ≡ one_to 8 count) (t' : Kept) (told : ℕ) where
-  pub table_made : fits ≡ true → t' ≡ idle_kept count → told ≡ packed_made Done → MakesTable t count told t'
+module _ (t : Kept) (count : ℕ) (e : one_to 8 count ≡ true) (t' : Kept) (told : ℕ) where
+  pub table_made : t' ≡ idle_kept count → told ≡ packed_made (Ok tt) → MakesTable t count told t'
   unfolding count_fits
-  table_made h f g = rw (sym e ∙ h) (g, (f, ap table_in f ∙ idle_in count))
-
-  pub table_refused : fits ≡ false → t' ≡ t → told ≡ packed_made (Refused refusal.Worker) → MakesTable t count told t'
-  unfolding count_fits
-  table_refused h f g = rw (sym e ∙ h) (g, (f, ap table_in f))
+  table_made f g = rw e (g, (f, ap table_in f ∙ idle_in count))

@@ -1,9 +1,6 @@
 -- What becomes of the one record that a call reads and stores back.
-use Rattle.catalogue.specs.Workers.{bare}
-use Rattle.catalogue.specs.declared.answers.Admission.{Admission}
-use Rattle.catalogue.specs.declared.answers.Admission.TheVariants as admission
+use Rattle.std.specs.Prelude.{Result, Ok, Err}
 use Rattle.catalogue.specs.declared.answers.Answer.{Answer}
-use Rattle.catalogue.specs.declared.answers.Answer.TheVariants.{Going, Reply, Refused}
 use Rattle.catalogue.specs.declared.answers.Refusal.{Refusal}
 use Rattle.catalogue.specs.declared.workers.Worker.{Worker}
 use Rattle.border.specs.Kept.{record_of}
@@ -12,18 +9,12 @@ use Rattle.border.specs.declared.kept.Record.{Record}
 use Rattle.host.specs.declared.one.Moved.{Moved}
 
 unfoldable pub refused : Record → Refusal → Moved
-refused r refusal = record { kept = r; told = packed_answer (Refused refusal) }
+refused r refusal = record { kept = r; told = packed_answer (Err refusal) }
 
 unfoldable pub moved : Worker → Answer → Moved
-moved w answer = record { kept = record_of w; told = packed_answer answer }
+moved w answer = record { kept = record_of w; told = packed_answer (Ok answer) }
 
--- a step that has decided: a refusal keeps the record unchanged
-unfoldable pub settled : Record → Worker → Answer → Moved
-settled r w (Going met) = moved w (Going met)
-settled r w (Reply number) = moved w (Reply number)
-settled r w (Refused why) = refused r why
-
--- the worker where its request begins, or a refusal
-unfoldable pub entered : Record → Admission → Moved
-entered r (admission.Begins place) = moved (bare place) (Going 0)
-entered r (admission.Refused why) = refused r why
+-- what a call makes of the record, or its refusal, which keeps the record unchanged
+abbrev pub or_refused : Record → Result Moved Refusal → Moved
+or_refused r (Ok x) = x
+or_refused r (Err why) = refused r why

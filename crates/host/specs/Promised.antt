@@ -1,14 +1,12 @@
 -- What the host's calls promise, for any memory, table and arguments: the number returned, and the lent memory after
 -- it.
-use Rattle.std.specs.Prelude.{ℕ, Bool, true, false, List, ◌≡◌, ℤ}
+use Rattle.std.specs.Prelude.{ℕ, Bool, true, false, List, ◌≡◌, ℤ, Ok, Err, Result}
 use Rattle.catalogue.specs.Tests.{pick}
 use Rattle.catalogue.specs.Workers.{worker_at, idle_table}
 use Rattle.catalogue.specs.Calls.{count_fits}
+use Rattle.catalogue.specs.declared.answers.Refusal.{Refusal}
 use Rattle.catalogue.specs.declared.answers.Answer.{Answer}
-use Rattle.catalogue.specs.declared.answers.Answer.TheVariants as answer
-use Rattle.catalogue.specs.declared.answers.Answer.TheVariants.{Going, Reply}
 use Rattle.catalogue.specs.declared.answers.Outcome.{Outcome}
-use Rattle.catalogue.specs.declared.answers.Made.TheVariants.{Done, Refused}
 use Rattle.catalogue.specs.declared.answers.Refusal.TheVariants.{Worker}
 use Rattle.catalogue.specs.Lent.{Memory, lent_fresh, lent_take_up, lent_step, lent_listing, lent_run, lent_sweep}
 use Rattle.catalogue.specs.declared.workers.Request.{Request}
@@ -18,10 +16,9 @@ use Rattle.border.specs.declared.kept.Kept.{Kept}
 use Rattle.border.specs.declared.kept.Record.{Record}
 use Rattle.host.specs.declared.one.Moved.{Moved}
 
-abbrev pub refuses : Answer → Bool
-refuses (Going met) = false
-refuses (Reply number) = false
-refuses (answer.Refused why) = true
+abbrev pub refuses : Result Answer Refusal → Bool
+refuses (Ok answer) = false
+refuses (Err why) = true
 
 -- the table t after a call for worker w, number by number: as it was, if the call refuses; else with the outcome's
 -- worker written down at w
@@ -77,5 +74,5 @@ Sweeps m n t r keys words =
 -- a table of idle workers, number by number and as the table that it stands for: 21 is a count that is not 1 to 8
 abbrev pub MakesTable : Kept → ℕ → ℕ → Kept → Type 0
 MakesTable t count r t' =
-    (r ≡ packed_made (pick (count_fits count) Done (Refused Worker)))
+    (r ≡ packed_made (pick (count_fits count) (Ok tt) (Err Worker)))
     × ((t' ≡ pick (count_fits count) (idle_kept count) t) × (table_in t' ≡ pick (count_fits count) (idle_table count) (table_in t)))

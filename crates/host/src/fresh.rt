@@ -9,6 +9,5 @@ use clearing::fresh::fresh;
 pub extern "C" fn pallaymi_fresh(keys: &mut [i32], words: &mut [u32]) -> u64
     ensures { MakesFresh (memory_of keys.old words.old) result keys.new words.new }
 {
-    let answer = fresh(keys, words);
-    packed_made(answer)
+    packed_made(fresh(keys, words))
 }

@@ -9,6 +9,5 @@ use listing::call::listing;
 pub extern "C" fn pallaymi_listing(keys: &[i32], words: &[u32], output: &mut [u8]) -> u64
     ensures { Lists (memory_of keys.now words.now) output.old result output.new }
 {
-    let answer = listing(keys, words, output);
-    packed_listed(answer)
+    packed_listed(listing(keys, words, output))
 }

@@ -4,15 +4,15 @@ ghost use Rattle.catalogue.specs.Lent.{memory_of};
 ghost use Rattle.catalogue.specs.Workers.{asks};
 ghost use Rattle.border.specs.Kept.{slot};
 ghost use Rattle.host.specs.Promised.{StepsOne, TakesUpOne};
-ghost use Rattle.host.specs.Moves.{moved, refused, settled, entered};
+ghost use Rattle.host.specs.Moves.{moved, or_refused};
 
-use border::kept::{Record, record_of, worker_in};
+use border::kept::Record;
 use border::packing::packed_answer;
 use calls::admit::admit;
-use calls::record::step_record;
-use catalogue::answers::{Admission, Answer, Refusal};
+use calls::record::step_lent;
+use catalogue::answers::{Answer, Refusal};
 use catalogue::workers::{Pair, Request, Worker};
-use memory::checks::sized;
+use memory::checks::{lend, sized};
 use workers::checks::worker_fits;
 use workers::records::bare;
 use workers::requests::busy_at;
@@ -32,63 +32,77 @@ pub fn slot(worker: u32) -> usize
 }
 
 // A refusal keeps the record unchanged.
-fn refuse(r: Record, refusal: Refusal) -> Moved
-    ensures { result ≡ refused r refusal }
+#[tactic(auto, unfolding(crate::specs::Moves::refused))]
+fn or_refused(r: Record, made: Result<Moved, Refusal>) -> Moved
+    ensures { result ≡ or_refused r made }
 {
-    let told = packed_answer(Answer::Refused { refusal });
-    Moved { kept: r, told }
+    match made {
+        Ok(moved) => moved,
+        Err(refusal) => Moved {
+            kept: r,
+            told: packed_answer(Err(refusal)),
+        },
+    }
 }
 
+#[tactic(auto, unfolding(crate::specs::Moves::moved))]
 fn move_to(w: Worker, answer: Answer) -> Moved
     ensures { result ≡ moved w answer }
 {
-    let kept = record_of(w);
-    let told = packed_answer(answer);
-    Moved { kept, told }
+    Moved {
+        kept: Record::from(w),
+        told: packed_answer(Ok(answer)),
+    }
 }
 
-// A step that has decided, its refusals among the rest.
-fn settle(r: Record, w: Worker, answer: Answer) -> Moved
-    ensures { result ≡ settled r w answer }
+// The memory, the worker's number, then its place.
+#[tactic(auto, using(memory::proofs::Sizes::sizes))]
+fn step_busy(
+    keys: &mut [i32],
+    words: &mut [u32],
+    count: u32,
+    worker: u32,
+    r: Record,
+) -> Result<Moved, Refusal>
+    ensures { StepsOne (memory_of keys.old words.old) count worker r (or_refused r result) keys.new words.new }
 {
-    match answer {
-        Answer::Going { met } => move_to(w, Answer::Going { met }),
-        Answer::Reply { number } => move_to(w, Answer::Reply { number }),
-        Answer::Refused { refusal } => refuse(r, refusal),
+    sized(keys, words)?;
+    if !worker_fits(count, worker) {
+        return Err(Refusal::Worker);
     }
+    let w = Worker::from(r);
+    if !busy_at(w.place) {
+        return Err(Refusal::Idle);
+    }
+    let s = step_lent(keys, words, w);
+    Ok(move_to(s.worker, s.answer?))
 }
 
 pub fn step_one(keys: &mut [i32], words: &mut [u32], count: u32, worker: u32, r: Record) -> Moved
     ensures { StepsOne (memory_of keys.old words.old) count worker r result keys.new words.new }
 {
-    if sized(keys, words) {
-        if worker_fits(count, worker) {
-            let w = worker_in(r);
-            let place = w.place;
-            if busy_at(place) {
-                let s = step_record(keys, words, w);
-                let after = s.worker;
-                let answer = s.answer;
-                return settle(r, after, answer);
-            }
-            return refuse(r, Refusal::Idle);
-        }
-        return refuse(r, Refusal::Worker);
-    }
-    refuse(r, Refusal::Room)
+    or_refused(r, step_busy(keys, words, count, worker, r))
 }
 
-// Where the request begins, or a refusal.
-fn enter(r: Record, admission: Admission) -> Moved
-    ensures { result ≡ entered r admission }
+// The memory, the worker's number, then what `admit` looks at.
+#[tactic(auto, using(memory::proofs::Sizes::sizes))]
+fn take_up_admitted(
+    keys: &[i32],
+    words: &[u32],
+    count: u32,
+    worker: u32,
+    r: Record,
+    q: Request,
+) -> Result<Moved, Refusal>
+    ensures { TakesUpOne (memory_of keys.now words.now) count worker r q (or_refused r result) }
 {
-    match admission {
-        Admission::Begins { place } => {
-            let w = bare(place);
-            move_to(w, Answer::Going { met: 0 })
-        }
-        Admission::Refused { refusal } => refuse(r, refusal),
+    let lent = lend(keys, words)?;
+    if !worker_fits(count, worker) {
+        return Err(Refusal::Worker);
     }
+    let w = Worker::from(r);
+    let first = admit(lent, w.place, q)?;
+    Ok(move_to(bare(first), Answer::Going { met: 0 }))
 }
 
 // The catalogue is only read.
@@ -104,18 +118,9 @@ pub fn take_up_one(
 ) -> Moved
     ensures { TakesUpOne (memory_of keys.now words.now) count worker r (asks code k l) result }
 {
-    if sized(keys, words) {
-        if worker_fits(count, worker) {
-            let w = worker_in(r);
-            let place = w.place;
-            let q = Request {
-                code,
-                pair: Pair { k, l },
-            };
-            let admission = admit(keys, words, place, q);
-            return enter(r, admission);
-        }
-        return refuse(r, Refusal::Worker);
-    }
-    refuse(r, Refusal::Room)
+    let q = Request {
+        code,
+        pair: Pair { k, l },
+    };
+    or_refused(r, take_up_admitted(keys, words, count, worker, r, q))
 }

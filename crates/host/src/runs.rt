@@ -14,6 +14,5 @@ pub extern "C" fn pallaymi_run(
 ) -> u64
     ensures { Runs script.now (memory_of keys.old words.old) output.old result keys.new words.new output.new }
 {
-    let answer = run(script, keys, words, output);
-    packed_ran(answer)
+    packed_ran(run(script, keys, words, output))
 }

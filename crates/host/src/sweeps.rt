@@ -17,9 +17,7 @@ fn sweep_kept(
 ) -> u64
     ensures { Sweeps (memory_of keys.now words.now) (memory_of new_keys.old new_words.old) t result new_keys.new new_words.new }
 {
-    let table = table_of(t);
-    let answer = sweep(keys, words, new_keys, new_words, table);
-    packed_made(answer)
+    packed_made(sweep(keys, words, new_keys, new_words, table_of(t)))
 }
 
 // The table is only read.

@@ -3,9 +3,9 @@ ghost use Rattle.std.specs.Prelude.{◌≡◌};
 ghost use Rattle.border.specs.Kept.{idle_kept};
 ghost use Rattle.host.specs.Promised.{MakesTable};
 
-use border::kept::{Kept, record_of};
+use border::kept::{Kept, Record};
 use border::packing::packed_made;
-use catalogue::answers::{Made, Refusal};
+use catalogue::answers::Refusal;
 use workers::checks::one_to;
 use workers::records::idle;
 
@@ -19,25 +19,27 @@ pub struct Tabled {
 fn idle_kept(count: u32) -> Kept
     ensures { result ≡ idle_kept count }
 {
-    let w = idle();
-    let r = record_of(w);
-    let records = [r; 8];
-    Kept { count, records }
+    Kept {
+        count,
+        records: [Record::from(idle()); 8],
+    }
 }
 
 // A count that is not 1 to 8 is refused, and what was lent is left as it is.
+#[tactic(auto, unfolding(catalogue::specs::Calls::count_fits))]
 fn make_table(t: Kept, count: u32) -> Tabled
     ensures { MakesTable t count result.told result.table }
 {
-    if one_to(8, count) {
-        let table = idle_kept(count);
-        let told = packed_made(Made::Done);
-        return Tabled { table, told };
+    if !one_to(8, count) {
+        return Tabled {
+            table: t,
+            told: packed_made(Err(Refusal::Worker)),
+        };
     }
-    let told = packed_made(Made::Refused {
-        refusal: Refusal::Worker,
-    });
-    Tabled { table: t, told }
+    Tabled {
+        table: idle_kept(count),
+        told: packed_made(Ok(())),
+    }
 }
 
 #[unsafe(no_mangle)]

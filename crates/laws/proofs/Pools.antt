@@ -7,19 +7,19 @@ use borrow.Author.Tests.{ltb-true}
 use mir.Syntax.{w8}
 use mir.Val.{Fits}
 use lib.Dec.{ltb, eqb}
+use Rattle.std.proofs.Common.{Option, Some, None}
 use Rattle.catalogue.specs.Numbers.{edge_pool, room, edge_tag}
 use Rattle.catalogue.specs.Catalogue.{Catalogue, edge_link_in, edge_link}
 use Rattle.catalogue.specs.Live.{is_added, is_live}
-use Rattle.catalogue.specs.declared.links.EdgeLink.{EdgeLink}
-use Rattle.catalogue.specs.declared.links.EdgeLink.TheVariants as edge
+use Rattle.catalogue.specs.declared.links.Link.{Link}
 use Rattle.catalogue.specs.declared.links.Room.{Room}
 use Rattle.catalogue.specs.declared.links.Room.TheVariants as room
-use Rattle.laws.proofs.Picks.{clash, both_true, pick_both, edge_both}
+use Rattle.laws.proofs.Picks.{clash, both_true, pick_both, link_both}
 
 -- an edge whose link was read whole
-abbrev Linked : ℕ → EdgeLink → Type 0
-Linked n (edge.At next tag) = n < 2048
-Linked n edge.Torn = Unit {0}
+abbrev Linked : ℕ → Option (Link ℕ) → Type 0
+Linked n (Some l) = n < 2048
+Linked n None = Unit {0}
 
 linked : (words : ℕ → ℕ) (n : ℕ) → Linked n (edge_link_in words n)
 unfolding edge_link_in
@@ -31,14 +31,14 @@ linked words n =
     (λ g. tt))
     (λ e. tt))
 
-pub edge_in_pool : (words : ℕ → ℕ) (n next tag : ℕ) (r : EdgeLink) → r ≡ edge_link_in words n → r ≡ edge.At next tag → n < 2048
-edge_in_pool words n next tag r e q = subst (Linked n) (sym e ∙ q) (linked words n)
+pub edge_in_pool : (words : ℕ → ℕ) (n : ℕ) (l : Link ℕ) (r : Option (Link ℕ)) → r ≡ edge_link_in words n → r ≡ Some l → n < 2048
+edge_in_pool words n l r e q = subst (Linked n) (sym e ∙ q) (linked words n)
 
 -- an edge that is ADDED, or live
 pub added_in : (C : Catalogue) (e : ℕ) → is_added C e ≡ true → e < edge_pool
 added_in C e =
-    edge_both (λ b. b ≡ true → e < edge_pool) (edge_link C e) false _ (λ h. clash (cc))
-    (λ next tag q h. edge_in_pool C.edges.link e next tag (edge_link C e) refl q)
+    link_both (λ b. b ≡ true → e < edge_pool) (edge_link C e) false _ (λ h. clash (cc))
+    (λ next tag q h. edge_in_pool C.edges.link e _ (edge_link C e) refl q)
 
 pub live_added : (C : Catalogue) (e : ℕ) → is_live C e ≡ true → is_added C e ≡ true
 live_added C e h = (both_true (is_added C e) _ h).0

@@ -4,22 +4,15 @@
 -- and which constructor the result was taken apart into.
 use Prim.Native.Nat.{ℕ}
 use mathlib.Core.Bool.{Bool, true, false}
-use mathlib.Core.Path.{◌≡◌, refl, sym, ◌∙◌, ap}
+use mathlib.Core.Path.{◌≡◌, refl, sym, ◌∙◌}
 use mir.Syntax.{w32}
 use mir.Val.{SFits, of_z, to_z}
 use lib.IntN.{ℤ}
 use lib.Signed.{lt_z}
 use Rattle.catalogue.specs.Tests.{pick, eq_z}
-use Rattle.catalogue.specs.Catalogue.{at_vertex, at_edge, at_target}
-use Rattle.catalogue.specs.Steps.Both.{at_both}
-use Rattle.catalogue.specs.declared.links.VertexLink.{VertexLink}
-use Rattle.catalogue.specs.declared.links.VertexLink.TheVariants as vertex
-use Rattle.catalogue.specs.declared.links.EdgeLink.{EdgeLink}
-use Rattle.catalogue.specs.declared.links.EdgeLink.TheVariants as edge
-use Rattle.catalogue.specs.declared.links.Target.{Target}
-use Rattle.catalogue.specs.declared.links.Target.TheVariants as target
-use Rattle.catalogue.specs.declared.steps.BothSeen.{BothSeen}
-use Rattle.catalogue.specs.declared.steps.BothSeen.TheVariants as both
+use Rattle.std.proofs.Common.{Option, Some, None}
+use Rattle.catalogue.specs.Catalogue.{at_link}
+use Rattle.catalogue.specs.declared.links.Link.{Link}
 use Rattle.laws.proofs.Rules.{tests, eq_z_true, eq_z_false, lt_z_is}
 
 module _ {A : Type 0} (x : A) where
@@ -31,33 +24,11 @@ module _ {A : Type 0} (x : A) where
   on_false t a b e q = rw e q
 
   -- a read, whose answer r the code took apart
-  pub vertex_at : (l r : VertexLink) (next tag : ℕ) (torn : A) (f : ℕ → ℕ → A) → r ≡ l → r ≡ vertex.At next tag → x ≡ f next tag → x ≡ at_vertex l torn f
-  vertex_at l r next tag torn f e q h = rw (sym e ∙ q) h
+  pub link_at : (l r : Option (Link ℕ)) (k : Link ℕ) (torn : A) (f : ℕ → ℕ → A) → r ≡ l → r ≡ Some k → x ≡ f k.next k.tag → x ≡ at_link l torn f
+  link_at l r k torn f e q h = rw (sym e ∙ q) h
 
-  pub vertex_torn : (l r : VertexLink) (torn : A) (f : ℕ → ℕ → A) → r ≡ l → r ≡ vertex.Torn → x ≡ torn → x ≡ at_vertex l torn f
-  vertex_torn l r torn f e q h = rw (sym e ∙ q) h
-
-  pub edge_at : (l r : EdgeLink) (next tag : ℕ) (torn : A) (f : ℕ → ℕ → A) → r ≡ l → r ≡ edge.At next tag → x ≡ f next tag → x ≡ at_edge l torn f
-  edge_at l r next tag torn f e q h = rw (sym e ∙ q) h
-
-  pub edge_torn : (l r : EdgeLink) (torn : A) (f : ℕ → ℕ → A) → r ≡ l → r ≡ edge.Torn → x ≡ torn → x ≡ at_edge l torn f
-  edge_torn l r torn f e q h = rw (sym e ∙ q) h
-
-  pub target_at : (l r : Target) (n : ℕ) (torn : A) (f : ℕ → A) → r ≡ l → r ≡ target.At n → x ≡ f n → x ≡ at_target l torn f
-  target_at l r n torn f e q h = rw (sym e ∙ q) h
-
-  pub target_torn : (l r : Target) (torn : A) (f : ℕ → A) → r ≡ l → r ≡ target.Torn → x ≡ torn → x ≡ at_target l torn f
-  target_torn l r torn f e q h = rw (sym e ∙ q) h
-
-  -- the look at u and v
-  pub both_torn : (l r : BothSeen) (torn dead standing : A) → r ≡ l → r ≡ both.Torn → x ≡ torn → x ≡ at_both l torn dead standing
-  both_torn l r torn dead standing e q h = rw (sym e ∙ q) h
-
-  pub both_dead : (l r : BothSeen) (torn dead standing : A) → r ≡ l → r ≡ both.Dead → x ≡ dead → x ≡ at_both l torn dead standing
-  both_dead l r torn dead standing e q h = rw (sym e ∙ q) h
-
-  pub both_standing : (l r : BothSeen) (torn dead standing : A) → r ≡ l → r ≡ both.Standing → x ≡ standing → x ≡ at_both l torn dead standing
-  both_standing l r torn dead standing e q h = rw (sym e ∙ q) h
+  pub link_torn : (l r : Option (Link ℕ)) (torn : A) (f : ℕ → ℕ → A) → r ≡ l → r ≡ None → x ≡ torn → x ≡ at_link l torn f
+  link_torn l r torn f e q h = rw (sym e ∙ q) h
 
 -- a test of a key that was read
 pub lt_z_read : (t : Bool) (r a b : ℤ) → r ≡ a → SFits w32 r → SFits w32 b → lt_z (to_z w32 (of_z w32 r)) (to_z w32 (of_z w32 b)) ≡ t → lt_z a b ≡ t
@@ -73,23 +44,12 @@ eq_z_read_false r a b e h = rw (← e) (eq_z_false r b h)
 pub flag : (a r t : Bool) → r ≡ a → r ≡ t → a ≡ t
 flag a r t e q = sym e ∙ q
 
--- a signed argument reaches a callee through its bits, and means the same there
-pub arg : {A : Type 0} (f : ℤ → A) (r : A) (k k' : ℤ) → r ≡ f k' → k' ≡ k → r ≡ f k
-arg f r k k' e s = e ∙ ap f s
-
 pub ruleset ways = (
   refl,
   on_true,
   on_false,
-  vertex_at,
-  vertex_torn,
-  edge_at,
-  edge_torn,
-  target_at,
-  target_torn,
-  both_torn,
-  both_dead,
-  both_standing,
+  link_at,
+  link_torn,
   lt_z_read,
   eq_z_read_true,
   eq_z_read_false,

@@ -4,6 +4,7 @@ use Prim.Native.Nat.{ℕ}
 use mathlib.Core.Bool.{Bool, true, false}
 use mathlib.Core.Path.{◌≡◌, refl}
 use native.Mathlib.Omega.{arith}
+use Rattle.std.proofs.Common.{Result, Ok, Err}
 use Rattle.catalogue.specs.Tests.{pick}
 use Rattle.catalogue.specs.Numbers.{head}
 use Rattle.catalogue.specs.Catalogue.{Catalogue}
@@ -14,8 +15,6 @@ use Rattle.catalogue.specs.Calls.{After, refuse, worker_fits, admit, admitted, t
 use Rattle.catalogue.specs.Lent.{view, lay, sized, after_call, lent_take_up, lent_step}
 use Rattle.catalogue.specs.declared.answers.Refusal.{Refusal}
 use Rattle.catalogue.specs.declared.answers.Refusal.TheVariants as refusal
-use Rattle.catalogue.specs.declared.answers.Admission.{Admission}
-use Rattle.catalogue.specs.declared.answers.Admission.TheVariants as admission
 use Rattle.catalogue.specs.declared.workers.Place.{Place}
 use Rattle.catalogue.specs.declared.workers.Request.{Request}
 use Rattle.catalogue.specs.declared.workers.Worker.{Worker}
@@ -44,9 +43,9 @@ pick_alike true h g = h
 pick_alike false h g = g
 
 -- an admission to a place in range
-abbrev AdmitsNear : Admission → Type 0
-AdmitsNear (admission.Begins place) = PlaceNear place
-AdmitsNear (admission.Refused why) = Unit {0}
+abbrev AdmitsNear : Result Place Refusal → Type 0
+AdmitsNear (Ok place) = PlaceNear place
+AdmitsNear (Err why) = Unit {0}
 
 admit_near : (C : Catalogue) (place : Place) (q : Request) → AdmitsNear (admit C place q)
 admit_near C place q =
@@ -95,14 +94,14 @@ module _ {C D : Catalogue} (a : Agree C D) (t : Table) (r : TableInRange t) wher
       performed : Alike (perform C t w (worker_at t w) (decide C (worker_at t w))) (perform D t w (worker_at t w) (decide D (worker_at t w)))
       performed = rw (← decided.same) (perform_alike w (worker_at t w) at (decide C (worker_at t w)) decided.good)
 
-  admitted_alike : (w : ℕ) (d : Admission) → AdmitsNear d → Alike (admitted C t w d) (admitted D t w d)
-  admitted_alike w (admission.Begins place) h = record {
+  admitted_alike : (w : ℕ) (d : Result Place Refusal) → AdmitsNear d → Alike (admitted C t w d) (admitted D t w d)
+  admitted_alike w (Ok place) h = record {
     agree = a;
     table = refl;
     answer = refl;
     range = all_set InRange t.workers w (bare place) r (bare_in_range place h);
   }
-  admitted_alike w (admission.Refused why) h = refuse_alike why
+  admitted_alike w (Err why) h = refuse_alike why
 
   pub take_up_alike : (w : ℕ) (q : Request) → Alike (take_up C t w q) (take_up D t w q)
   unfolding take_up

@@ -3,6 +3,7 @@ use Prim.Native.Nat.{ℕ}
 use mathlib.Core.Bool.{Bool, true, false}
 use mathlib.Core.List.{List, [], ◌∷◌}
 use mathlib.Core.Path.{◌≡◌, refl, sym, ap, ap₂, ◌∙◌, subst}
+use Rattle.std.proofs.Common.{Result, Ok, Err}
 use Rattle.catalogue.specs.Tests.{pick}
 use Rattle.catalogue.specs.Catalogue.{Catalogue, fresh}
 use Rattle.catalogue.specs.Workers.{idle}
@@ -11,9 +12,8 @@ use Rattle.catalogue.specs.Soundness.{sound, sweep}
 use Rattle.catalogue.specs.Sweep.{AfterSweep, any_busy, swept, refuse_sweep, sweep_into}
 use Rattle.catalogue.specs.Lent.{Memory, LentCall, view, lay, sized, after_call, after_sweep, lent_fresh, lent_take_up, lent_step, lent_sweep}
 use Rattle.catalogue.specs.Choosing.{Choice, takes, steps, sweeps, Moment, start, Chosen, chosen_call, chosen_sweep, choose, telling, after}
+use Rattle.catalogue.specs.declared.answers.Refusal.{Refusal}
 use Rattle.catalogue.specs.declared.answers.Refusal.TheVariants as refusal
-use Rattle.catalogue.specs.declared.answers.Made.{Made}
-use Rattle.catalogue.specs.declared.answers.Made.TheVariants.{Done, Refused}
 use Rattle.catalogue.specs.declared.workers.Place.TheVariants.{Idle}
 use Rattle.catalogue.specs.declared.workers.Table.{Table}
 use Rattle.lent.specs.Hosting.{LentMoment, LentChosen, lent_start, lent_called, lent_swept, lent_choose, lent_telling, lent_after}
@@ -36,9 +36,9 @@ record Kept (x : LentChosen) (y : Chosen) : Type 0 where
   tells : x.tells ≡ y.tells
 
 -- A sweep is done or refused whatever it writes into, and writes only where it is done.
-abbrev answered : Catalogue → Made → Catalogue → AfterSweep
-answered C Done E = record { second = swept C; answer = Done }
-answered C (Refused why) E = refuse_sweep E why
+abbrev answered : Catalogue → Result (Unit {0}) Refusal → Catalogue → AfterSweep
+answered C (Ok u) E = record { second = swept C; answer = Ok tt }
+answered C (Err why) E = refuse_sweep E why
 
 sweep_answered : (C E : Catalogue) (t : Table) → sweep_into C E t ≡ answered C (sweep_into C C t).answer E
 unfolding sweep_into
@@ -46,7 +46,7 @@ sweep_answered C E t = by (count_fits t.count) (any_busy t t.count) (sound sweep
   where
     into : Bool → Bool → Bool → Catalogue → AfterSweep
     into a b c F =
-        pick a (pick b (refuse_sweep F refusal.Busy) (pick c (record { second = swept C; answer = Done }) (refuse_sweep F refusal.Torn)))
+        pick a (pick b (refuse_sweep F refusal.Busy) (pick c (record { second = swept C; answer = Ok tt }) (refuse_sweep F refusal.Torn)))
         (refuse_sweep F refusal.Worker)
 
     by : (a b c : Bool) → into a b c E ≡ answered C (into a b c C).answer E
@@ -71,7 +71,7 @@ module _ (h : LentMoment) (m : Moment) (k : Held h m) where
       E : Catalogue
       E = view h.second
 
-      tells : Made
+      tells : Result (Unit {0}) Refusal
       tells = (sweep_into C C m.table).answer
 
       written : lent_sweep h.memory h.second h.table ≡ after_sweep (answered C tells E)
@@ -79,8 +79,8 @@ module _ (h : LentMoment) (m : Moment) (k : Held h m) where
           rw (k.holds.memory, k.holds.table) (lent_sweep_laid C h.second m.table k.second)
           ∙ ap after_sweep (sweep_answered C E m.table)
 
-      by : (s : Made) → Kept (lent_swept h (after_sweep (answered C s E))) (chosen_sweep m.table (answered C s C))
-      by Done = record {
+      by : (s : Result (Unit {0}) Refusal) → Kept (lent_swept h (after_sweep (answered C s E))) (chosen_sweep m.table (answered C s C))
+      by (Ok u) = record {
         held = record {
           holds = record { memory = refl; table = k.holds.table };
           second = rw k.holds.memory (sized_lay C);
@@ -88,7 +88,7 @@ module _ (h : LentMoment) (m : Moment) (k : Held h m) where
         };
         tells = refl;
       }
-      by (Refused why) = record {
+      by (Err why) = record {
         held = record {
           holds = record { memory = k.holds.memory; table = k.holds.table };
           second = sized_lay E;
@@ -122,7 +122,7 @@ told_same h m k (c ∷ cs) =
     ap₂ ◌∷◌ kept.tells (told_same (lent_choose h c).moment (choose m c).moment kept.held cs)
 
 -- the fresh catalogue, with all workers idle
-made_fresh : (m : Memory) → sized m ≡ true → lent_fresh m ≡ record { memory = lay fresh; answer = Done }
+made_fresh : (m : Memory) → sized m ≡ true → lent_fresh m ≡ record { memory = lay fresh; answer = Ok tt }
 unfolding lent_fresh
 made_fresh m e = rw e refl
 

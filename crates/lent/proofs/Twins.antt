@@ -4,14 +4,11 @@ use Prim.Native.Nat.{ℕ}
 use mathlib.Core.Bool.{Bool, true, false}
 use mathlib.Core.Path.{◌≡◌, refl, subst}
 use Rattle.catalogue.specs.Tests.{pick}
-use Rattle.catalogue.specs.Catalogue.{at_vertex, at_edge, at_target}
+use Rattle.catalogue.specs.Numbers.{some_link}
+use Rattle.catalogue.specs.Catalogue.{at_link, at_target}
 use Rattle.catalogue.specs.Steps.Both.{at_both}
-use Rattle.catalogue.specs.declared.links.VertexLink.{VertexLink}
-use Rattle.catalogue.specs.declared.links.VertexLink.TheVariants as vertex
-use Rattle.catalogue.specs.declared.links.EdgeLink.{EdgeLink}
-use Rattle.catalogue.specs.declared.links.EdgeLink.TheVariants as edge
-use Rattle.catalogue.specs.declared.links.Target.{Target}
-use Rattle.catalogue.specs.declared.links.Target.TheVariants as target
+use Rattle.std.proofs.Common.{Option, Some, None}
+use Rattle.catalogue.specs.declared.links.Link.{Link}
 use Rattle.catalogue.specs.declared.steps.BothSeen.{BothSeen}
 use Rattle.catalogue.specs.declared.steps.BothSeen.TheVariants as both
 
@@ -39,20 +36,15 @@ module _ {A : Type 0} {P : A → Type 0} where
   pick_twin false f g = g refl
 
   -- the same read
-  pub vertex_twin : (l l' : VertexLink) {torn torn' : A} {f f' : ℕ → ℕ → A} → l ≡ l' → Twin P torn torn'
-      → ((next tag : ℕ) → l ≡ vertex.At next tag → Twin P (f next tag) (f' next tag)) → Twin P (at_vertex l torn f) (at_vertex l' torn' f')
-  vertex_twin (vertex.At next tag) l' e t g = rw (← e) (g next tag refl)
-  vertex_twin vertex.Torn l' e t g = rw (← e) t
+  pub link_twin : (l l' : Option (Link ℕ)) {torn torn' : A} {f f' : ℕ → ℕ → A} → l ≡ l' → Twin P torn torn'
+      → ((next tag : ℕ) → l ≡ some_link next tag → Twin P (f next tag) (f' next tag)) → Twin P (at_link l torn f) (at_link l' torn' f')
+  link_twin (Some l) l' e t g = rw (← e) (g l.next l.tag refl)
+  link_twin None l' e t g = rw (← e) t
 
-  pub edge_twin : (l l' : EdgeLink) {torn torn' : A} {f f' : ℕ → ℕ → A} → l ≡ l' → Twin P torn torn'
-      → ((next tag : ℕ) → l ≡ edge.At next tag → Twin P (f next tag) (f' next tag)) → Twin P (at_edge l torn f) (at_edge l' torn' f')
-  edge_twin (edge.At next tag) l' e t g = rw (← e) (g next tag refl)
-  edge_twin edge.Torn l' e t g = rw (← e) t
-
-  pub target_twin : (l l' : Target) {torn torn' : A} {f f' : ℕ → A} → l ≡ l' → Twin P torn torn'
-      → ((n : ℕ) → l ≡ target.At n → Twin P (f n) (f' n)) → Twin P (at_target l torn f) (at_target l' torn' f')
-  target_twin (target.At n) l' e t g = rw (← e) (g n refl)
-  target_twin target.Torn l' e t g = rw (← e) t
+  pub target_twin : (l l' : Option ℕ) {torn torn' : A} {f f' : ℕ → A} → l ≡ l' → Twin P torn torn'
+      → ((n : ℕ) → l ≡ Some n → Twin P (f n) (f' n)) → Twin P (at_target l torn f) (at_target l' torn' f')
+  target_twin (Some n) l' e t g = rw (← e) (g n refl)
+  target_twin None l' e t g = rw (← e) t
 
   pub both_twin : (l l' : BothSeen) {torn dead standing torn' dead' standing' : A} → l ≡ l' → Twin P torn torn' → Twin P dead dead'
       → Twin P standing standing' → Twin P (at_both l torn dead standing) (at_both l' torn' dead' standing')

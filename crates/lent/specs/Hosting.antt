@@ -1,13 +1,12 @@
 -- A host that lends memory: it makes it fresh once, and from then on takes choices,
 -- each one call on the memory and the table.
-use Rattle.std.specs.Prelude.{ℕ, List, [], ◌∷◌}
+use Rattle.std.specs.Prelude.{ℕ, List, [], ◌∷◌, Result, Ok, Err}
 use Rattle.catalogue.specs.Workers.{idle_table}
 use Rattle.catalogue.specs.Answers.{Told, told, made_number}
 use Rattle.catalogue.specs.Lent.{Memory, LentMade, LentCall, lent_fresh, lent_take_up, lent_step, lent_sweep}
 use Rattle.catalogue.specs.Choosing.{Choice, takes, steps, sweeps}
+use Rattle.catalogue.specs.declared.answers.Refusal.{Refusal}
 use Rattle.catalogue.specs.declared.workers.Table.{Table}
-use Rattle.catalogue.specs.declared.answers.Made.{Made}
-use Rattle.catalogue.specs.declared.answers.Made.TheVariants.{Done, Refused}
 
 -- What the host has between two choices: the catalogue in use,
 -- memory that the next sweep may write into, and the table.
@@ -29,9 +28,9 @@ lent_called second a =
     record { moment = record { memory = a.memory; second = second; table = a.outcome.table }; tells = told a.outcome.answer }
 
 -- After a sweep the two memories change places; after a refused one they are where they were.
-abbrev pub after_made : LentMoment → Memory → Made → LentMoment
-after_made m written Done = record { memory = written; second = m.memory; table = m.table }
-after_made m written (Refused refusal) = record { memory = m.memory; second = written; table = m.table }
+abbrev pub after_made : LentMoment → Memory → Result (Unit {0}) Refusal → LentMoment
+after_made m written (Ok u) = record { memory = written; second = m.memory; table = m.table }
+after_made m written (Err refusal) = record { memory = m.memory; second = written; table = m.table }
 
 abbrev pub lent_swept : LentMoment → LentMade → LentChosen
 lent_swept m a = record { moment = after_made m a.memory a.answer; tells = record { number = made_number a.answer; met = 0 } }

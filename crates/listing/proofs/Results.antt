@@ -1,35 +1,32 @@
 -- The contents line and the body after it are the text of a listing.
 -- Where the check of soundness passes, there is room for both.
-use Prim.Native.Nat.{ℕ, ◌+◌, ◌*◌, ◌≤◌, ◌<◌}
+use Prim.Native.Nat.{ℕ, ◌+◌, ◌*◌, ◌≤◌}
 use mathlib.Core.Bool.{Bool, true, false}
 use mathlib.Core.List.{List, [], ◌∷◌, ◌++◌, map}
 use mathlib.Core.Path.{◌≡◌, refl, sym, ap, ap₂, ◌∙◌}
 use native.Mathlib.Omega.{arith}
 use native.Mathlib.Nat.{zero-add}
 use borrow.Author.Rules.{rules}
-use borrow.Author.Tests.{le-leb, lt-leb}
 use mir.Syntax.{w32}
 use mir.Val.{Fits}
 use lib.IntN.{ℤ, pos}
 use lib.ListN.{length, drop, length-append}
+use Rattle.std.proofs.Common.{Result, Ok, Err}
 use Rattle.catalogue.specs.Tests.{keep}
 use Rattle.catalogue.specs.Numbers.{head, tail, edge_tail, vertex_pool, edge_pool}
 use Rattle.catalogue.specs.Catalogue.{Catalogue}
-use Rattle.catalogue.specs.Lent.{Memory, view, sized, output_fits, output_size, catalogue_in, lent_listing}
+use Rattle.catalogue.specs.Lent.{catalogue_in}
 use Rattle.catalogue.specs.Listing.{ReplyLine, reply_numbers, contents, added_edges, vertex_lines, edge_lines, result_text, written, list_into}
 use Rattle.catalogue.specs.Live.{next_vertex, first_edge, next_edge, unmarked, is_added, edges_of, live_vertices, live_edges}
 use Rattle.catalogue.specs.Soundness.{Asks, listing, sound}
 use Rattle.catalogue.specs.Text.{line, lines}
 use Rattle.catalogue.specs.declared.answers.Refusal.TheVariants as refusal
-use Rattle.catalogue.specs.declared.listing.Listed.{Listed}
-use Rattle.catalogue.specs.declared.listing.Listed.TheVariants.{Written, Refused}
 use Rattle.resting.proofs.Sound.{edges_few}
 use Rattle.survey.specs.Walks.{linked}
 use Rattle.text.specs.Puts.{put_at}
 use Rattle.text.proofs.Runs.{put_then, end_then}
 use Rattle.text.proofs.LineLaws.{AllShort, length_short}
 use Rattle.text.proofs.Naturals.{natural_short}
-use Rattle.listing.specs.Promised.{Lists}
 use Rattle.listing.specs.Walks.{kept_from}
 use Rattle.listing.proofs.Kept.{kept_short}
 use Rattle.listing.proofs.Counts.{gather_short}
@@ -119,7 +116,7 @@ module _ (keys : List ℤ) (words : List ℕ) where
     text_fits start end within all = record { fits = omega (arith, limit) }
 
   module _ (l : List ℕ) (r : Bool) (e : r ≡ sound listing C) where
-    pub unsound_answer : r ≡ false → Refused refusal.Torn ≡ (list_into C l).answer
+    pub unsound_answer : r ≡ false → Err refusal.Torn ≡ (list_into C l).answer
     unfolding list_into
     unsound_answer q = rw (sym e ∙ q) refl
 
@@ -128,10 +125,10 @@ module _ (keys : List ℤ) (words : List ℕ) where
     unsound_output q = rw (sym e ∙ q) refl
 
     module _ (q : r ≡ true) (start : ℕ) (began : start ≡ 0 + length first) where
-      pub sound_answer : (end : ℕ) → end ≡ start + length rest → Written end ≡ (list_into C l).answer
+      pub sound_answer : (end : ℕ) → end ≡ start + length rest → Ok end ≡ (list_into C l).answer
       unfolding list_into
       sound_answer end last =
-          rw (sym e ∙ q) (ap Written (end_then 0 start first rest began end last ∙ zero-add (length (first ++ rest)) ∙ ap length (sym (text_alone C))))
+          rw (sym e ∙ q) (ap Ok (end_then 0 start first rest began end last ∙ zero-add (length (first ++ rest)) ∙ ap length (sym (text_alone C))))
 
       pub sound_output : (m k : List ℕ) → m ≡ put_at l 0 first → k ≡ put_at m start rest → length m ≡ length l → length k ≡ length m → 65536 ≤ length l
           → k ≡ (list_into C l).output
@@ -143,19 +140,3 @@ module _ (keys : List ℤ) (words : List ℕ) where
           (put_then 0 start first rest began l m k one two (omega (arith, length-append first rest)) ∙ ap (put_at l 0) (sym (text_alone C)) ∙ at_start (result_text C []) l)
 
 pub ruleset result_cases = (unsound_answer, unsound_output, body_room, text_fits, sound_answer, sound_output, rules)
-
--- ---- the call, by its checks
-
-module _ (m : Memory) (l : List ℕ) where
-  pub left_unsized : sized m ≡ false → Lists m l (Refused refusal.Room) l
-  unfolding lent_listing
-  left_unsized h = rw h (refl, refl)
-
-  module _ (h : sized m ≡ true) where
-    pub left_short : length l < output_size → Lists m l (Refused refusal.Room) l
-    unfolding lent_listing output_fits
-    left_short short = rw (h, lt-leb output_size (length l) short) (refl, refl)
-
-    pub left_listed : (r : Listed) (k : List ℕ) → output_size ≤ length l → r ≡ (list_into (view m) l).answer → k ≡ (list_into (view m) l).output → Lists m l r k
-    unfolding lent_listing output_fits
-    left_listed r k room a b = rw (h, le-leb output_size (length l) room) (a, b)

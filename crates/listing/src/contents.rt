@@ -5,14 +5,13 @@ ghost use Rattle.catalogue.specs.Live.{live_vertices};
 ghost use Rattle.catalogue.specs.Text.{line};
 ghost use Rattle.survey.specs.Walks.{linked};
 ghost use Rattle.text.specs.Puts.{put_at};
-ghost use Rattle.catalogue.specs.Lent.{words_size};
 
 use crate::body::counts;
+use memory::Words;
 use text::lines::put_three;
 
-pub fn put_contents(words: &[u32], output: &mut [u8], at: usize, replies: u32) -> usize
-    requires words_len { length words.now ≡ words_size }
-    requires at_in_bounds { at + 36 ≤ length output.old }
+pub fn put_contents(words: &Words, output: &mut [u8], at: usize, replies: u32) -> usize
+    requires { at + 36 ≤ length output.old }
     ensures output_after { output.new ≡ put_at output.old at (line (pos replies ∷ (pos (length (live_vertices (linked words.now))) ∷ (pos (length (added_edges (linked words.now))) ∷ [])))) }
     ensures value { result ≡ at + length (line (pos replies ∷ (pos (length (live_vertices (linked words.now))) ∷ (pos (length (added_edges (linked words.now))) ∷ [])))) }
     ensures upper_bound { result ≤ at + 36 }

@@ -8,19 +8,15 @@ use asking::perform::perform;
 fn add_chain(keys: &mut [i32], words: &mut [u32], apart: u8, end: u16)
     requires { end ≤ 254 }
 {
-    let mut n = 1;
-    while n < end {
+    for n in 1..end {
         perform(keys, words, 4, key(n), key(n + (apart as u16)));
-        n += 1;
     }
 }
 
 // 252, 251, .. and 245 edges to the eight next vertices, and 58 to the ninth.
 pub fn add_chains(keys: &mut [i32], words: &mut [u32]) {
-    let mut apart = 1u8;
-    while apart < 9 {
+    for apart in 1..9 {
         add_chain(keys, words, apart, 254 - (apart as u16));
-        apart += 1;
     }
     add_chain(keys, words, 9, 59);
 }

@@ -14,7 +14,9 @@ use memory::{KEYS_SIZE, WORDS_SIZE};
 fn main() {
     let mut keys = [0; KEYS_SIZE];
     let mut words = [0; WORDS_SIZE];
-    fresh(&mut keys, &mut words);
+    if fresh(&mut keys, &mut words).is_err() {
+        return;
+    }
     print_tally(on_vertices(&mut keys, &mut words, 1, 0, 1));
     // all 254 vertices are passed, then the tail is seen: 255 steps after the taking up
     let contains = perform(&mut keys, &mut words, 3, 254, 0);

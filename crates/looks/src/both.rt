@@ -1,27 +1,28 @@
 // The marks of u and v.
 ghost use Rattle.std.specs.Prelude.{◌≡◌};
-ghost use Rattle.catalogue.specs.Lent.{Sized, catalogue_in};
 ghost use Rattle.catalogue.specs.Steps.Both.{see_both};
+ghost use Rattle.memory.specs.Memories.{held};
 
-use catalogue::links::VertexLink;
+use catalogue::links::{Link, MARKED};
 use catalogue::steps::BothSeen;
+use memory::Lent;
 use memory::reads::vertex_link;
 
 // u before v, and v only where u is unmarked.
-pub fn see_both(keys: &[i32], words: &[u32], u: u8, v: u8) -> BothSeen
-    requires { Sized keys.now words.now }
-    ensures { result ≡ see_both (catalogue_in keys.now words.now) u v }
+#[tactic(auto, unfolding(catalogue::specs::Steps::Both::see_both))]
+pub fn see_both(lent: Lent, u: u8, v: u8) -> BothSeen
+    ensures { result ≡ see_both (held lent.entry) u v }
 {
-    let VertexLink::At { next: _, tag } = vertex_link(words, u) else {
+    let Some(Link { tag, .. }) = vertex_link(lent.words, u) else {
         return BothSeen::Torn;
     };
-    if tag == 1 {
+    if tag == MARKED {
         return BothSeen::Dead;
     }
-    let VertexLink::At { next: _, tag: mark } = vertex_link(words, v) else {
+    let Some(Link { tag: mark, .. }) = vertex_link(lent.words, v) else {
         return BothSeen::Torn;
     };
-    if mark == 1 {
+    if mark == MARKED {
         return BothSeen::Dead;
     }
     BothSeen::Standing

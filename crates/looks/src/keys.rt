@@ -5,27 +5,17 @@ ghost use Rattle.catalogue.specs.Steps.Places.{key_refused};
 
 use catalogue::workers::Request;
 
+#[tactic(auto, using(laws::proofs::Ways::ways), unfolding(catalogue::specs::Numbers::reserved))]
 fn reserved(k: i32) -> bool
     ensures { result ≡ reserved k }
 {
-    if k == -2147483648 {
-        return true;
-    }
-    if k == 2147483647 {
-        return true;
-    }
-    false
+    k == i32::MIN || k == i32::MAX
 }
 
 // A key that the request uses is reserved; codes 1 to 3 use one.
+#[tactic(auto, unfolding(catalogue::specs::Steps::Places::key_refused))]
 pub fn key_refused(q: Request) -> bool
     ensures { result ≡ key_refused q }
 {
-    if reserved(q.pair.k) {
-        return true;
-    }
-    if q.code <= 3 {
-        return false;
-    }
-    reserved(q.pair.l)
+    reserved(q.pair.k) || 3 < q.code && reserved(q.pair.l)
 }

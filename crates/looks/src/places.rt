@@ -1,9 +1,10 @@
-// Which place a request goes on to, by its code.
+// Which place a request goes on to, by its code. The code stays a number: the user asks that decisions go by it.
 ghost use Rattle.std.specs.Prelude.{◌≡◌};
 ghost use Rattle.catalogue.specs.Steps.Places.{vertex_place, find_u_place, find_v_place, edge_place, edges_place, first_place};
 
 use catalogue::workers::{Ends, Pair, Place, Prev, Request};
 
+#[tactic(auto, unfolding(catalogue::specs::Steps::Places::vertex_place))]
 pub fn vertex_place(code: u32, k: i32, p: u8, c: u8) -> Place
     ensures { result ≡ vertex_place code k p c }
 {
@@ -13,6 +14,7 @@ pub fn vertex_place(code: u32, k: i32, p: u8, c: u8) -> Place
     }
 }
 
+#[tactic(auto, unfolding(catalogue::specs::Steps::Places::find_u_place))]
 pub fn find_u_place(code: u32, pair: Pair, c: u8) -> Place
     ensures { result ≡ find_u_place code pair c }
 {
@@ -23,6 +25,7 @@ pub fn find_u_place(code: u32, pair: Pair, c: u8) -> Place
     }
 }
 
+#[tactic(auto, unfolding(catalogue::specs::Steps::Places::find_v_place))]
 pub fn find_v_place(code: u32, pair: Pair, u: u8, c: u8) -> Place
     ensures { result ≡ find_v_place code pair u c }
 {
@@ -33,6 +36,7 @@ pub fn find_v_place(code: u32, pair: Pair, u: u8, c: u8) -> Place
     }
 }
 
+#[tactic(auto, unfolding(catalogue::specs::Steps::Places::edge_place))]
 pub fn edge_place(code: u32, ends: Ends, p: Prev, c: u16) -> Place
     ensures { result ≡ edge_place code ends p c }
 {
@@ -43,6 +47,7 @@ pub fn edge_place(code: u32, ends: Ends, p: Prev, c: u16) -> Place
 }
 
 // The first look at the edges of u.
+#[tactic(auto, unfolding(catalogue::specs::Steps::Places::edges_place))]
 pub fn edges_place(code: u32, ends: Ends, c: u16) -> Place
     ensures { result ≡ edges_place code ends c }
 {
@@ -53,6 +58,7 @@ pub fn edges_place(code: u32, ends: Ends, c: u16) -> Place
 }
 
 // Taking up: c is the head's next. Another code has no place: it is refused as CODE before.
+#[tactic(auto, unfolding(catalogue::specs::Steps::Places::first_place))]
 pub fn first_place(q: Request, c: u8) -> Place
     ensures { result ≡ first_place q c }
 {

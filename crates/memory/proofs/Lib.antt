@@ -1,5 +1,4 @@
 -- Laws of the lent memory, for the proofs of this crate and of those above it.
-pub mod Words
 pub mod Sizes
 pub mod Tables
 pub mod Laid

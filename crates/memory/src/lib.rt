@@ -8,3 +8,15 @@ pub mod reads;
 pub const KEYS_SIZE: usize = 2304;
 
 pub const WORDS_SIZE: usize = 4610;
+
+// A lent slice of its stated size.
+pub type Keys = [i32; KEYS_SIZE];
+
+pub type Words = [u32; WORDS_SIZE];
+
+// A lent catalogue, to be read.
+#[derive(Clone, Copy)]
+pub struct Lent<'a> {
+    pub keys: &'a Keys,
+    pub words: &'a Words,
+}

@@ -1,13 +1,14 @@
 -- Step bounds: how many steps of its own a call takes at most, whatever the others do.
 -- Steps are counted in the choices of a run; nothing is stored for it.
-use Rattle.std.specs.Prelude.{ℕ, suc, ◌+◌, ◌*◌, ◌≤◌, Bool, true, false, List, [], ◌∷◌, ◌≡◌, eqb, length, take, replicate}
+use Rattle.std.specs.Prelude.{ℕ, suc, ◌+◌, ◌*◌, ◌≤◌, Bool, true, false, List, [], ◌∷◌, ◌≡◌, eqb, length, take, replicate, Result, Ok, Err}
 use Rattle.catalogue.specs.Tests.{pick}
 use Rattle.catalogue.specs.Calls.{take_up, step}
 use Rattle.catalogue.specs.Live.{edges_of}
 use Rattle.catalogue.specs.Choosing.{Choice, takes, steps, sweeps, Moment, choose, after}
 use Rattle.catalogue.specs.Workers.{worker_at, asks_pair}
+use Rattle.catalogue.specs.declared.answers.Refusal.{Refusal}
 use Rattle.catalogue.specs.declared.answers.Answer.{Answer}
-use Rattle.catalogue.specs.declared.answers.Answer.TheVariants.{Going, Reply, Refused}
+use Rattle.catalogue.specs.declared.answers.Answer.TheVariants.{Going, Reply}
 use Rattle.catalogue.specs.declared.workers.Ends.{Ends}
 use Rattle.catalogue.specs.declared.workers.Pair.{Pair}
 use Rattle.catalogue.specs.declared.workers.Place.TheVariants as place
@@ -28,10 +29,10 @@ unfoldable pub own_steps : ℕ → List Choice → ℕ
 own_steps w [] = 0
 own_steps w (c ∷ cs) = pick (lets w c) 1 0 + own_steps w cs
 
-abbrev pub is_reply : Answer → Bool
-is_reply (Going met) = false
-is_reply (Reply n) = true
-is_reply (Refused r) = false
+abbrev pub is_reply : Result Answer Refusal → Bool
+is_reply (Ok (Going met)) = false
+is_reply (Ok (Reply n)) = true
+is_reply (Err r) = false
 
 -- a step of w at this moment is replied to
 abbrev pub step_replies : ℕ → Moment → Bool
@@ -103,5 +104,5 @@ TrialAlone =
     → (n : ℕ) → (let alone : List Choice = replicate n (steps w) in
     let inserted : Moment = (choose (at workers choices) (steps w)).moment in
     let last : Moment = after inserted alone in
-    Unanswered w inserted alone → (step last.catalogue last.table w).answer ≡ Reply 1
+    Unanswered w inserted alone → (step last.catalogue last.table w).answer ≡ Ok (Reply 1)
     → suc n ≡ 2 * length (taken_by last w) + edges_taken last w + 1)

@@ -1,5 +1,5 @@
 -- Runs that are computed: the promises speak of runs in which edges are added, and in which a loop is refused.
-use Rattle.std.specs.Prelude.{ℕ, true, List, ◌∷◌, ◌++◌, ◌≡◌, refl, pos, replicate}
+use Rattle.std.specs.Prelude.{ℕ, true, List, ◌∷◌, ◌++◌, ◌≡◌, refl, pos, replicate, Ok}
 use Rattle.std.proofs.Common.{arith}
 use Rattle.catalogue.specs.Calls.{step}
 use Rattle.catalogue.specs.Choosing.{Choice, takes, steps, after}
@@ -26,7 +26,7 @@ edge_added = refl
 abbrev half : List Choice
 half = derived_once ++ does 4 2 1 7
 
-pub loop_refused : (step (at 1 half).catalogue (at 1 half).table 0).answer ≡ Reply 6
+pub loop_refused : (step (at 1 half).catalogue (at 1 half).table 0).answer ≡ Ok (Reply 6)
 unfolding found after
 loop_refused = refl
 

@@ -1,12 +1,13 @@
 -- The history of a run: which call each choice answers, when that call was taken up,
 -- and the live graph between two choices.
-use Rattle.std.specs.Prelude.{ℕ, zero, suc, Bool, true, false, List, [], ◌∷◌, ◌++◌, pos, eqb}
+use Rattle.std.specs.Prelude.{ℕ, zero, suc, Bool, true, false, List, [], ◌∷◌, ◌++◌, pos, eqb, Result, Ok, Err}
 use Rattle.std.proofs.Math.Option.{Option, none, some}
 use Rattle.catalogue.specs.Tests.{pick}
 use Rattle.catalogue.specs.Calls.{take_up, step}
 use Rattle.catalogue.specs.Choosing.{Choice, takes, steps, sweeps, Moment, choose}
+use Rattle.catalogue.specs.declared.answers.Refusal.{Refusal}
 use Rattle.catalogue.specs.declared.answers.Answer.{Answer}
-use Rattle.catalogue.specs.declared.answers.Answer.TheVariants.{Going, Reply, Refused}
+use Rattle.catalogue.specs.declared.answers.Answer.TheVariants.{Going, Reply}
 use Rattle.row.specs.Rows.Row.{Call, History}
 use Rattle.promises.specs.Moments.{moment, chosen}
 use Rattle.promises.specs.Graphs.{Graph, live}
@@ -18,10 +19,10 @@ pub record Begun : Type 0 where
   pub ask : Ask
 
 -- a taking up that is not refused
-abbrev pub accepted : Answer → Bool
-accepted (Going met) = true
-accepted (Reply n) = false
-accepted (Refused r) = false
+abbrev pub accepted : Result Answer Refusal → Bool
+accepted (Ok (Going met)) = true
+accepted (Ok (Reply n)) = false
+accepted (Err r) = false
 
 -- what a choice takes up for a worker, if anything
 abbrev pub taken_up : Moment → Choice → ℕ → Option Ask
@@ -39,10 +40,10 @@ begun workers choices w zero = record { first = 0; ask = Ask.ConV (pos 0) }
 begun workers choices w (suc n) = since (taken_up (moment workers choices n) (chosen workers choices n) w) (suc n) (begun workers choices w n)
 
 -- the call that a reply answers
-abbrev pub answers : Begun → Answer → Option (Call Ask ℕ)
-answers b (Going met) = none
-answers b (Reply n) = some (record { first = b.first; request = b.ask; reply = n })
-answers b (Refused r) = none
+abbrev pub answers : Begun → Result Answer Refusal → Option (Call Ask ℕ)
+answers b (Ok (Going met)) = none
+answers b (Ok (Reply n)) = some (record { first = b.first; request = b.ask; reply = n })
+answers b (Err r) = none
 
 abbrev pub answered_by : (ℕ → Begun) → Moment → Choice → Option (Call Ask ℕ)
 answered_by b m (takes v q) = none
@@ -58,10 +59,10 @@ abbrev pub history : ℕ → List Choice → History Graph Ask ℕ
 history workers choices = record { live = λ n. live (moment workers choices n).catalogue; answered = answered workers choices }
 
 -- Which workers are replied to by a list of choices, and with which numbers, in order.
-abbrev pub reply_to : ℕ → Answer → List (ℕ × ℕ)
-reply_to w (Going met) = []
-reply_to w (Reply n) = (w, n) ∷ []
-reply_to w (Refused r) = []
+abbrev pub reply_to : ℕ → Result Answer Refusal → List (ℕ × ℕ)
+reply_to w (Ok (Going met)) = []
+reply_to w (Ok (Reply n)) = (w, n) ∷ []
+reply_to w (Err r) = []
 
 abbrev pub reply_by : Moment → Choice → List (ℕ × ℕ)
 reply_by m (takes v q) = []

@@ -1,8 +1,8 @@
 -- The three replies that stand outside the row: 9 for want of a node, 7 for a pair on trial,
 -- and 6 for a pair that would close a loop.
-use Rattle.std.specs.Prelude.{ℕ, suc, ◌+◌, ◌≤◌, ◌<◌, true, false, List, ◌≡◌, ℤ, length}
+use Rattle.std.specs.Prelude.{ℕ, suc, ◌+◌, ◌≤◌, ◌<◌, true, false, List, ◌≡◌, ℤ, length, Some, Ok}
 use Rattle.catalogue.specs.Tests.{member}
-use Rattle.catalogue.specs.Numbers.{most_vertices, most_edges, marked, transit}
+use Rattle.catalogue.specs.Numbers.{most_vertices, most_edges, marked, transit, some_link}
 use Rattle.catalogue.specs.Catalogue.{Catalogue, vertex_key, edge_link, edge_target}
 use Rattle.catalogue.specs.Live.{edges_of, unmarked, live_vertices, live_edges_of}
 use Rattle.catalogue.specs.Calls.{step}
@@ -11,8 +11,6 @@ use Rattle.catalogue.specs.Steps.Vertices.{look_at_vertex}
 use Rattle.catalogue.specs.Steps.Edges.{look_at_edge}
 use Rattle.catalogue.specs.Steps.Finding.{ends_of}
 use Rattle.catalogue.specs.declared.answers.Answer.TheVariants.{Reply}
-use Rattle.catalogue.specs.declared.links.EdgeLink.TheVariants as edge
-use Rattle.catalogue.specs.declared.links.Target.TheVariants as target
 use Rattle.catalogue.specs.declared.steps.VertexSeen.TheVariants as vertex_seen
 use Rattle.catalogue.specs.declared.steps.EdgeSeen.TheVariants as edge_seen
 use Rattle.catalogue.specs.declared.steps.Landed.{Landed}
@@ -26,7 +24,7 @@ use Rattle.promises.specs.Graphs.{Graph}
 
 -- what a worker's step replies, and the catalogue after it
 abbrev pub Replies : Moment → ℕ → ℕ → Type 0
-Replies m w n = (step m.catalogue m.table w).answer ≡ Reply n
+Replies m w n = (step m.catalogue m.table w).answer ≡ Ok (Reply n)
 
 abbrev pub left : Moment → ℕ → Catalogue
 left m w = (step m.catalogue m.table w).catalogue
@@ -73,7 +71,7 @@ pub record TrialEdge (C : Catalogue) (x e : ℕ) : Type 0 where
   pub high : x < 2 + C.counts.vertices
   pub listed : member e (edges_of C x) ≡ true
   pub next : ℕ
-  pub link : edge_link C e ≡ edge.At next transit
+  pub link : edge_link C e ≡ some_link next transit
 
 -- Exactly one worker tries e, and it does so from x.
 pub record Tried (workers : ℕ) (m : Moment) (x e : ℕ) : Type 0 where
@@ -91,9 +89,9 @@ pub record Stands (C : Catalogue) (x e y : ℕ) : Type 0 where
   pub listed : member e (edges_of C x) ≡ true
   pub next : ℕ
   pub tag : ℕ
-  pub link : edge_link C e ≡ edge.At next tag
+  pub link : edge_link C e ≡ some_link next tag
   pub plain : tag ≡ marked → ⊥
-  pub leads : edge_target C e ≡ target.At y
+  pub leads : edge_target C e ≡ Some y
   pub source : unmarked C x ≡ true
   pub goal : unmarked C y ≡ true
 
@@ -101,7 +99,7 @@ pub record Stands (C : Catalogue) (x e y : ℕ) : Type 0 where
 pub record Lives (C : Catalogue) (x e y : ℕ) : Type 0 where
   pub source : member x (live_vertices C) ≡ true
   pub listed : member e (live_edges_of C x) ≡ true
-  pub leads : edge_target C e ≡ target.At y
+  pub leads : edge_target C e ≡ Some y
 
 module _ (workers : ℕ) (choices : List Choice) (w : ℕ) where
   -- A trial of w: of the pair of these ends, with its own edge e from u to v.

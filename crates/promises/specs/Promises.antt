@@ -1,6 +1,6 @@
 -- Demand 3: what holds of every run. Stated over the definitions that the contracts of the code cite;
 -- proved in proofs/.
-use Rattle.std.specs.Prelude.{ℕ, suc, ◌≤◌, ◌<◌, true, false, List, map, ◌≡◌, ℤ, length}
+use Rattle.std.specs.Prelude.{ℕ, suc, ◌≤◌, ◌<◌, true, false, List, map, ◌≡◌, ℤ, length, Err}
 use Rattle.std.proofs.Math.Option.{some}
 use Rattle.catalogue.specs.Catalogue.{Catalogue}
 use Rattle.catalogue.specs.Workers.{request_of}
@@ -11,8 +11,6 @@ use Rattle.catalogue.specs.Script.{Script, good, read_script}
 use Rattle.catalogue.specs.Soundness.{Asks, sweep, sound}
 use Rattle.catalogue.specs.Sweep.{any_busy, sweep_into}
 use Rattle.catalogue.specs.declared.answers.Refusal.TheVariants.{Torn}
-use Rattle.catalogue.specs.declared.answers.Answer.TheVariants as answer
-use Rattle.catalogue.specs.declared.answers.Made.TheVariants as made
 use Rattle.catalogue.specs.declared.workers.Ends.{Ends}
 use Rattle.row.specs.Rows.Row.{Call, Entry, Explains}
 use Rattle.promises.specs.Moments.{Keyed, Given, at, moment, place_of}
@@ -30,9 +28,9 @@ NoLoop =
 
 -- A call that is refused as torn.
 abbrev pub RefusedTorn : Moment → Choice → Type 0
-RefusedTorn m (takes w q) = (take_up m.catalogue m.table w q).answer ≡ answer.Refused Torn
-RefusedTorn m (steps w) = (step m.catalogue m.table w).answer ≡ answer.Refused Torn
-RefusedTorn m sweeps = (sweep_into m.catalogue m.catalogue m.table).answer ≡ made.Refused Torn
+RefusedTorn m (takes w q) = (take_up m.catalogue m.table w q).answer ≡ Err Torn
+RefusedTorn m (steps w) = (step m.catalogue m.table w).answer ≡ Err Torn
+RefusedTorn m sweeps = (sweep_into m.catalogue m.catalogue m.table).answer ≡ Err Torn
 
 -- There is none, whatever the choice.
 abbrev pub NeverTorn : Type 0

@@ -14,8 +14,7 @@ use Rattle.catalogue.specs.Catalogue.{Catalogue, vertex_key, vertex_link, first_
 use Rattle.catalogue.specs.Live.{next_edge, first_edge, vertices, edges_of, unmarked, is_added, is_live, live_vertices, live_edges_of, live_edges, live_keys, gather}
 use Rattle.catalogue.specs.Soundness.{Asks, tag_fits, edge_sound, edges_sound, target_sound, sound}
 use Rattle.catalogue.specs.Sweep.{SweptEdge, swept_edge, swept_edges, renumbered}
-use Rattle.catalogue.specs.declared.links.Target.{Target}
-use Rattle.catalogue.specs.declared.links.Target.TheVariants as target
+use Rattle.std.proofs.Common.{Option, Some, None}
 use Rattle.laws.proofs.Picks.{clash, both_true}
 use Rattle.laws.proofs.Rules.{eq_z_eq}
 use Rattle.laws.proofs.Members.{All, all_each, all_any, all_at, all_keep, all_map, every_all, member_keep}
@@ -49,16 +48,16 @@ module _ (C : Catalogue) (x e : ℕ) where
   abbrev aims : ℕ → SweptEdge
   aims target = record { source = renumbered C x; target = target; key = edge_key C e }
 
-  aimed_at : (l : Target) → at_target l false (unmarked C) ≡ true → at_target l false (target_sound C e) ≡ true
+  aimed_at : (l : Option ℕ) → at_target l false (unmarked C) ≡ true → at_target l false (target_sound C e) ≡ true
       → Aimed (live_keys C) (aims (at_target l 0 (renumbered C)))
-  aimed_at (target.At y) u t =
+  aimed_at (Some y) u t =
       let m = live_target C e y u t in
       record {
         low = place_from y (live_vertices C) 2;
         high = omega (arith, place_below y (live_vertices C) 2 m, length-map (live_vertices C) (vertex_key C));
         keyed = new_place C y m ∙ eq_z_eq (vertex_key C y) (edge_key C e) (both_true (eq_z (vertex_key C y) (edge_key C e)) _ t).0;
       }
-  aimed_at target.Torn u t = clash (cc)
+  aimed_at None u t = clash (cc)
 
 module _ (asks : Asks) (C : Catalogue) (x : ℕ) (s : edges_sound asks C x ≡ true) where
   abbrev Good : ℕ → Type 0

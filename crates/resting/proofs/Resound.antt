@@ -12,15 +12,13 @@ use lib.Dec.{ltb, le→leb}
 use lib.Signed.{lt_z, ◌<ℤ◌, ◌≤ℤ◌, le_z_yes, lt_z_yes}
 use borrow.Author.Tests.{le-leb}
 use Rattle.catalogue.specs.Tests.{pick, every}
-use Rattle.catalogue.specs.Numbers.{head, tail, edge_tail, least, greatest, most_edges, added}
-use Rattle.catalogue.specs.Catalogue.{Catalogue, vertex_key, vertex_key_in, vertex_link, edge_key, edge_key_in, edge_link, edge_target, at_vertex, at_edge, at_target, at_mark}
+use Rattle.catalogue.specs.Numbers.{head, tail, edge_tail, least, greatest, most_edges, added, some_link}
+use Rattle.catalogue.specs.Catalogue.{Catalogue, vertex_key, vertex_key_in, vertex_link, edge_key, edge_key_in, edge_link, edge_target, at_link, at_target, at_mark}
 use Rattle.catalogue.specs.Live.{next_vertex, next_edge, first_edge, vertices, live_vertices, live_edges, gather}
 use Rattle.catalogue.specs.Soundness.{Asks, listing, sweep, tag_fits, vertex_sound, edge_sound, edges_sound, target_sound, sound}
 use Rattle.catalogue.specs.Sweep.{SweptEdge, held}
-use Rattle.catalogue.specs.declared.links.VertexLink.{VertexLink}
-use Rattle.catalogue.specs.declared.links.VertexLink.TheVariants as vertex
-use Rattle.catalogue.specs.declared.links.EdgeLink.{EdgeLink}
-use Rattle.catalogue.specs.declared.links.EdgeLink.TheVariants as edge
+use Rattle.std.proofs.Common.{Option, Some, None}
+use Rattle.catalogue.specs.declared.links.Link.{Link}
 use Rattle.laws.proofs.Picks.{clash}
 use Rattle.laws.proofs.Rules.{eq_z_refl}
 use Rattle.laws.proofs.Members.{All, all_each, all_join, all_every, all_at, all_map, all_parts}
@@ -40,14 +38,14 @@ bits_least (pos n) h = le_z_yes tt
 bits_least (negsuc n) h = le_z_yes (le→leb n 2147483647 (omega (arith, h.sfits)))
 
 -- the tests of soundness, from what was read
-link_passes : (low : ℤ) (key : ℕ → ℤ) (l : VertexLink) → at_vertex l false (λ next tag. true) ≡ true → low <ℤ key (at_vertex l tail (λ next tag. next))
-    → at_vertex l false (λ next tag. lt_z low (key next)) ≡ true
-link_passes low key (vertex.At next tag) e h = risen low (key next) h
-link_passes low key vertex.Torn e h = clash (cc)
+link_passes : (low : ℤ) (key : ℕ → ℤ) (l : Option (Link ℕ)) → at_link l false (λ next tag. true) ≡ true → low <ℤ key (at_link l tail (λ next tag. next))
+    → at_link l false (λ next tag. lt_z low (key next)) ≡ true
+link_passes low key (Some l) e h = risen low (key l.next) h
+link_passes low key None e h = clash (cc)
 
-edge_passes : (low : ℤ) (key : ℕ → ℤ) (fits : ℕ → Bool) (t : Bool) (l : EdgeLink) (next tag : ℕ) → l ≡ edge.At next tag → fits tag ≡ true
-    → low <ℤ key (at_edge l edge_tail (λ next tag. next)) → t ≡ true
-    → at_edge l false (λ next tag. pick (fits tag) (pick (lt_z low (key next)) t false) false) ≡ true
+edge_passes : (low : ℤ) (key : ℕ → ℤ) (fits : ℕ → Bool) (t : Bool) (l : Option (Link ℕ)) (next tag : ℕ) → l ≡ some_link next tag → fits tag ≡ true
+    → low <ℤ key (at_link l edge_tail (λ next tag. next)) → t ≡ true
+    → at_link l false (λ next tag. pick (fits tag) (pick (lt_z low (key next)) t false) false) ≡ true
 edge_passes low key fits t l next tag e f h g = rw (e, f, risen low (key next) (rw e at h), g) refl
 
 any_fits : (asks : Asks) → tag_fits asks added ≡ true
@@ -63,15 +61,15 @@ module _ {keys : List ℤ} {es : List SweptEdge} {share : ℕ → List SweptEdge
 
   -- Vertices.
   abbrev Whole : ℕ → Type 0
-  Whole i = at_vertex (vertex_link D i) false (λ next tag. true) ≡ true
+  Whole i = at_link (vertex_link D i) false (λ next tag. true) ≡ true
 
   abbrev Rises : ℕ → Type 0
   Rises i = vertex_key D i <ℤ vertex_key D (next_vertex D i)
 
   whole_links : All Whole (head ∷ numbers)
   whole_links = (
-    ap (λ l. at_vertex l false (λ next tag. true)) (head_at keys es f.few),
-    all_row Whole 2 (length keys) (λ i a b. ap (λ l. at_vertex l false (λ next tag. true)) (vertex_at keys es f.few i a b)),
+    ap (λ l. at_link l false (λ next tag. true)) (head_at keys es f.few),
+    all_row Whole 2 (length keys) (λ i a b. ap (λ l. at_link l false (λ next tag. true)) (vertex_at keys es f.few i a b)),
   )
 
   module _ (over : All (λ k. least <ℤ k) keys) where

@@ -8,10 +8,11 @@ use lib.IntN.{ℤ, pos}
 use lib.ListN.{length, get_or}
 use Rattle.catalogue.specs.Tests.{keep}
 use Rattle.catalogue.specs.Numbers.{head, tail, vertex_pool, most_vertices}
-use Rattle.catalogue.specs.Catalogue.{vertex_key, at_vertex, at_mark}
+use Rattle.catalogue.specs.Catalogue.{vertex_key, at_link, at_mark}
 use Rattle.catalogue.specs.Live.{next_vertex, vertices, unmarked, live_vertices, live_keys}
 use Rattle.catalogue.specs.Sweep.{SweptEdge, held, next_swept}
-use Rattle.catalogue.specs.declared.links.VertexLink.{VertexLink}
+use Rattle.std.proofs.Common.{Option}
+use Rattle.catalogue.specs.declared.links.Link.{Link}
 use Rattle.laws.proofs.Gathers.{length_table}
 use Rattle.laws.proofs.Members.{All, keep_all}
 use Rattle.laws.proofs.Walks.{Ends, run_walk}
@@ -23,8 +24,8 @@ module _ (keys : List ℤ) (es : List SweptEdge) (few : length keys ≤ most_ver
   abbrev count : ℕ
   count = length keys
 
-  abbrev to : VertexLink → ℕ
-  to l = at_vertex l tail (λ next tag. next)
+  abbrev to : Option (Link ℕ) → ℕ
+  to l = at_link l tail (λ next tag. next)
 
   pub vertices_end : Ends (next_vertex (held keys es)) tail (next_vertex (held keys es) head) (row 2 count)
   unfolding next_swept

@@ -9,12 +9,12 @@ use lib.Dec.{ltb}
 use lib.Signed.{◌<ℤ◌}
 use borrow.Author.Tests.{ltb-true}
 use Rattle.catalogue.specs.Tests.{pick}
-use Rattle.catalogue.specs.Numbers.{edge_tail, edge_pool, most_vertices, most_edges, greatest, added, plain}
-use Rattle.catalogue.specs.Catalogue.{edge_key, edge_link, first_link, at_edge}
+use Rattle.catalogue.specs.Numbers.{edge_tail, edge_pool, most_vertices, most_edges, greatest, added, plain, some_link}
+use Rattle.catalogue.specs.Catalogue.{edge_key, edge_link, first_link, at_link}
 use Rattle.catalogue.specs.Live.{next_edge, first_edge, edges_of, gather}
 use Rattle.catalogue.specs.Sweep.{SweptEdge, held, next_swept_edge}
-use Rattle.catalogue.specs.declared.links.EdgeLink.{EdgeLink}
-use Rattle.catalogue.specs.declared.links.EdgeLink.TheVariants as edge
+use Rattle.std.proofs.Common.{Option}
+use Rattle.catalogue.specs.declared.links.Link.{Link}
 use Rattle.laws.proofs.Picks.{pick_both}
 use Rattle.laws.proofs.Members.{All, all_each, all_gather}
 use Rattle.laws.proofs.Keys.{Rising}
@@ -72,16 +72,16 @@ module _ {keys : List ℤ} {es : List SweptEdge} {share : ℕ → List SweptEdge
   in_pool : (e : ℕ) → pick (ltb e (stop share i)) e edge_tail < edge_pool
   in_pool e = pick_both (λ k. k < 2048) (ltb e (stop share i)) e edge_tail (λ q. omega (arith, ltb-true e (stop share i) q, row_low, f.edges_few)) (λ q. omega arith)
 
-  pub link_row : (e : ℕ) → start share i ≤ e → e < stop share i → edge_link (held keys es) e ≡ edge.At (pick (ltb (suc e) (stop share i)) (suc e) edge_tail) added
+  pub link_row : (e : ℕ) → start share i ≤ e → e < stop share i → edge_link (held keys es) e ≡ some_link (pick (ltb (suc e) (stop share i)) (suc e) edge_tail) added
   link_row e a b =
       let next : next_swept_edge es e ≡ pick (ltb (suc e) (stop share i)) (suc e) edge_tail = next_there together (omega arith) e a b in
-      edge_at keys es e (omega arith) (omega (arith, row_low)) (omega (arith, row_low, f.edges_few)) (rw next (in_pool (suc e))) ∙ ap (λ k. edge.At k added) next
+      edge_at keys es e (omega arith) (omega (arith, row_low)) (omega (arith, row_low, f.edges_few)) (rw next (in_pool (suc e))) ∙ ap (λ k. some_link k added) next
 
-  pub first_link_row : first_link (held keys es) i ≡ edge.At (pick (ltb (start share i) (stop share i)) (start share i) edge_tail) plain
-  first_link_row = first_at keys es i (rw (first_there together) (in_pool (start share i))) ∙ ap (λ k. edge.At k plain) (first_there together)
+  pub first_link_row : first_link (held keys es) i ≡ some_link (pick (ltb (start share i) (stop share i)) (start share i) edge_tail) plain
+  first_link_row = first_at keys es i (rw (first_there together) (in_pool (start share i))) ∙ ap (λ k. some_link k plain) (first_there together)
 
-  abbrev to : EdgeLink → ℕ
-  to l = at_edge l edge_tail (λ next tag. next)
+  abbrev to : Option (Link ℕ) → ℕ
+  to l = at_link l edge_tail (λ next tag. next)
 
   pub edges_end : Ends (next_edge (held keys es)) edge_tail (first_edge (held keys es) i) (row (start share i) (size share i))
   edges_end =

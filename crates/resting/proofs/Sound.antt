@@ -10,41 +10,39 @@ use lib.Signed.{lt_z, ◌<ℤ◌}
 use borrow.Author.Tests.{leb-true}
 use Rattle.catalogue.specs.Tests.{pick, every}
 use Rattle.catalogue.specs.Numbers.{head, tail, edge_tail, most_edges, marked}
-use Rattle.catalogue.specs.Catalogue.{Catalogue, at_vertex, at_edge, at_mark}
+use Rattle.catalogue.specs.Catalogue.{Catalogue, at_link, at_mark}
 use Rattle.catalogue.specs.Live.{vertices, unmarked, live_vertices, live_edges}
 use Rattle.catalogue.specs.Soundness.{Asks, vertex_sound, edges_sound, sound}
-use Rattle.catalogue.specs.declared.links.VertexLink.{VertexLink}
-use Rattle.catalogue.specs.declared.links.VertexLink.TheVariants as vertex
-use Rattle.catalogue.specs.declared.links.EdgeLink.{EdgeLink}
-use Rattle.catalogue.specs.declared.links.EdgeLink.TheVariants as edge
+use Rattle.std.proofs.Common.{Option, Some, None}
+use Rattle.catalogue.specs.declared.links.Link.{Link}
 use Rattle.laws.proofs.Picks.{clash, both_true}
 use Rattle.laws.proofs.Members.{All, every_all}
 use Rattle.laws.proofs.Keys.{rises}
 
 -- a test of a link that came out true
-pub link_rises : (low : ℤ) (key : ℕ → ℤ) (l : VertexLink) → at_vertex l false (λ next tag. lt_z low (key next)) ≡ true → low <ℤ key (at_vertex l tail (λ next tag. next))
-link_rises low key (vertex.At next tag) e = rises low (key next) e
-link_rises low key vertex.Torn e = clash (cc)
+pub link_rises : (low : ℤ) (key : ℕ → ℤ) (l : Option (Link ℕ)) → at_link l false (λ next tag. lt_z low (key next)) ≡ true → low <ℤ key (at_link l tail (λ next tag. next))
+link_rises low key (Some l) e = rises low (key l.next) e
+link_rises low key None e = clash (cc)
 
-pub edge_rises : (low : ℤ) (key : ℕ → ℤ) (fits : ℕ → Bool) (t : Bool) (l : EdgeLink)
-    → at_edge l false (λ next tag. pick (fits tag) (pick (lt_z low (key next)) t false) false) ≡ true
-    → (low <ℤ key (at_edge l edge_tail (λ next tag. next))) × (t ≡ true)
-edge_rises low key fits t (edge.At next tag) e =
-    let r = both_true (lt_z low (key next)) t (both_true (fits tag) _ e).1 in
-    (rises low (key next) r.0, r.1)
-edge_rises low key fits t edge.Torn e = clash (cc)
+pub edge_rises : (low : ℤ) (key : ℕ → ℤ) (fits : ℕ → Bool) (t : Bool) (l : Option (Link ℕ))
+    → at_link l false (λ next tag. pick (fits tag) (pick (lt_z low (key next)) t false) false) ≡ true
+    → (low <ℤ key (at_link l edge_tail (λ next tag. next))) × (t ≡ true)
+edge_rises low key fits t (Some l) e =
+    let r = both_true (lt_z low (key l.next)) t (both_true (fits l.tag) _ e).1 in
+    (rises low (key l.next) r.0, r.1)
+edge_rises low key fits t None e = clash (cc)
 
-pub whole : (t : Bool) (l : EdgeLink) → at_edge l false (λ next tag. t) ≡ true → t ≡ true
-whole t (edge.At next tag) e = e
-whole t edge.Torn e = clash (cc)
+pub whole : (t : Bool) (l : Option (Link ℕ)) → at_link l false (λ next tag. t) ≡ true → t ≡ true
+whole t (Some l) e = e
+whole t None e = clash (cc)
 
-pub met : (m : Bool) (l : VertexLink) → at_mark l false false true ≡ true → at_mark l false true m ≡ true → m ≡ true
-met m (vertex.At next tag) = by (eqb tag marked)
+pub met : (m : Bool) (l : Option (Link ℕ)) → at_mark l false false true ≡ true → at_mark l false true m ≡ true → m ≡ true
+met m (Some l) = by (eqb l.tag marked)
   where
     by : (t : Bool) → pick t false true ≡ true → pick t true m ≡ true → m ≡ true
     by true u e = clash (cc)
     by false u e = e
-met m vertex.Torn = λ u e. clash (cc)
+met m None = λ u e. clash (cc)
 
 module _ (asks : Asks) (C : Catalogue) (s : sound asks C ≡ true) where
   abbrev lists : Bool

@@ -7,12 +7,10 @@ use lib.IntN.{ℤ, pos}
 use lib.ListN.{length, get_or, get_or-map}
 use lib.Dec.{ltb}
 use borrow.Author.Tests.{ne_eqb, lt-ltb, le-leb, ltb-true}
-use Rattle.catalogue.specs.Numbers.{head, tail, vertex_pool, edge_pool, vertex_tag, first_tag, edge_tag, plain, added, least, most_vertices}
+use Rattle.catalogue.specs.Numbers.{head, tail, vertex_pool, edge_pool, vertex_tag, first_tag, edge_tag, plain, added, least, most_vertices, some_link}
 use Rattle.catalogue.specs.Catalogue.{vertex_key, vertex_key_in, vertex_link, vertex_link_in, first_link, first_link_in, edge_key, edge_key_in, edge_link, edge_link_in, edge_target, edge_target_in}
 use Rattle.catalogue.specs.Sweep.{SweptEdge, held, first_of, next_swept, next_swept_edge}
-use Rattle.catalogue.specs.declared.links.VertexLink.TheVariants as vertex
-use Rattle.catalogue.specs.declared.links.EdgeLink.TheVariants as edge
-use Rattle.catalogue.specs.declared.links.Target.TheVariants as target
+use Rattle.std.proofs.Common.{Some}
 use Rattle.laws.proofs.Picks.{pick_both}
 use Rattle.resting.proofs.Links.{link_apart}
 use Rattle.resting.proofs.Blocks.{blank}
@@ -45,28 +43,28 @@ module _ (keys : List ℤ) (es : List SweptEdge) where
   unfolding held edge_key_in
   edge_key_at j = rw (ne_eqb (suc j) 0 (omega arith)) (get_or-map (λ d. d.key) es j blank)
 
-  pub target_at : (j : ℕ) → (get_or es j blank).target < vertex_pool → edge_target (held keys es) (suc j) ≡ target.At (get_or es j blank).target
+  pub target_at : (j : ℕ) → (get_or es j blank).target < vertex_pool → edge_target (held keys es) (suc j) ≡ Some (get_or es j blank).target
   unfolding held edge_target_in
   target_at j b = rw (get_or-map (λ d. d.target) es j blank, lt-ltb (get_or es j blank).target 256 b) refl
 
-  pub first_at : (i : ℕ) → first_of i es 1 < edge_pool → first_link (held keys es) i ≡ edge.At (first_of i es 1) plain
+  pub first_at : (i : ℕ) → first_of i es 1 < edge_pool → first_link (held keys es) i ≡ some_link (first_of i es 1) plain
   unfolding held first_link_in
-  first_at i b = link_apart edge_pool first_tag (first_of i es 1) plain edge.Torn edge.At b (omega arith) refl
+  first_at i b = link_apart edge_pool first_tag (first_of i es 1) plain b (omega arith) refl
 
   pub edge_at : (e : ℕ) → 1 ≤ e → e ≤ length es → e < edge_pool → next_swept_edge es e < edge_pool
-      → edge_link (held keys es) e ≡ edge.At (next_swept_edge es e) added
+      → edge_link (held keys es) e ≡ some_link (next_swept_edge es e) added
   unfolding held edge_link_in
   edge_at e a b c h =
       rw (ne_eqb e 0 (omega arith), lt-ltb e 2048 c, le-leb 1 e a, le-leb e (length es) b)
-      (link_apart edge_pool edge_tag (next_swept_edge es e) added edge.Torn edge.At h (omega arith) refl)
+      (link_apart edge_pool edge_tag (next_swept_edge es e) added h (omega arith) refl)
 
   module _ (few : count ≤ most_vertices) where
-    pub head_at : vertex_link (held keys es) head ≡ vertex.At (next_swept count tail) plain
+    pub head_at : vertex_link (held keys es) head ≡ some_link (next_swept count tail) plain
     unfolding held vertex_link_in
-    head_at = link_apart vertex_pool vertex_tag (next_swept count tail) plain vertex.Torn vertex.At (next_low count tail few) (omega arith) refl
+    head_at = link_apart vertex_pool vertex_tag (next_swept count tail) plain (next_low count tail few) (omega arith) refl
 
-    pub vertex_at : (i : ℕ) → 2 ≤ i → i < 2 + count → vertex_link (held keys es) i ≡ vertex.At (next_swept count i) plain
+    pub vertex_at : (i : ℕ) → 2 ≤ i → i < 2 + count → vertex_link (held keys es) i ≡ some_link (next_swept count i) plain
     unfolding held vertex_link_in
     vertex_at i a b =
         rw (ne_eqb i 1 (omega arith), ne_eqb i 0 (omega arith), le-leb 2 i a, lt-ltb i (2 + count) b)
-        (link_apart vertex_pool vertex_tag (next_swept count i) plain vertex.Torn vertex.At (next_low count i few) (omega arith) refl)
+        (link_apart vertex_pool vertex_tag (next_swept count i) plain (next_low count i few) (omega arith) refl)

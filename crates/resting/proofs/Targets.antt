@@ -9,7 +9,7 @@ use lib.ListN.{length, get_or}
 use lib.Dec.{eqb}
 use Rattle.catalogue.specs.Tests.{pick}
 use Rattle.catalogue.specs.Numbers.{added}
-use Rattle.catalogue.specs.Catalogue.{at_edge, at_target}
+use Rattle.catalogue.specs.Catalogue.{at_link, at_target}
 use Rattle.catalogue.specs.Live.{edges_of, unmarked, is_live, live_edges_of}
 use Rattle.catalogue.specs.Sweep.{SweptEdge, held}
 use Rattle.laws.proofs.Members.{All, all_at, keep_all}
@@ -41,7 +41,7 @@ module _ {keys : List ℤ} {es : List SweptEdge} {share : ℕ → List SweptEdge
     pub is_live_row : (e : ℕ) → start share i ≤ e → e < stop share i → is_live (held keys es) e ≡ true
     is_live_row e a b =
         let d : Leads keys es e = leads_row e a b in
-        ap₂ (λ t u. pick t u false) (ap (λ l. at_edge l false (λ next tag. eqb tag added)) (link_row f i r e a b))
+        ap₂ (λ t u. pick t u false) (ap (λ l. at_link l false (λ next tag. eqb tag added)) (link_row f i r e a b))
         (ap (λ l. at_target l false (unmarked (held keys es))) d.read ∙ unmarked_at keys es f.few d.to d.low d.high)
 
     pub list_live : All (λ e. is_live (held keys es) e ≡ true) (edges_of (held keys es) i)

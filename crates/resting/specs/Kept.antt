@@ -1,6 +1,6 @@
 -- What a sweep keeps, and how it numbers the nodes, for every sound catalogue: a sweep asks `sound sweep C`, and
 -- `sound listing C` is enough.
-use Rattle.std.specs.Prelude.{ℕ, suc, ◌+◌, ◌-◌, ◌≤◌, ◌<◌, true, List, ◌++◌, map, ◌≡◌, ℤ, length, get_or, ◌≤ℤ◌}
+use Rattle.std.specs.Prelude.{ℕ, suc, ◌+◌, ◌-◌, ◌≤◌, ◌<◌, true, List, ◌++◌, map, ◌≡◌, ℤ, length, get_or, ◌≤ℤ◌, Some}
 use Rattle.std.specs.Int.{w32}
 use Rattle.std.proofs.Common.{SFits}
 use Rattle.catalogue.specs.Tests.{every, member, table_from}
@@ -11,7 +11,6 @@ use Rattle.catalogue.specs.Soundness.{Asks, sound}
 use Rattle.catalogue.specs.Sweep.{SweptEdge, source_at, swept_edge, swept_edges, held, swept}
 use Rattle.catalogue.specs.Text.{lines}
 use Rattle.catalogue.specs.Listing.{vertex_lines, edge_lines, added_edges}
-use Rattle.catalogue.specs.declared.links.Target.TheVariants as target
 
 -- so many numbers from one on
 abbrev pub row : ℕ → ℕ → List ℕ
@@ -35,7 +34,7 @@ module _ (share : ℕ → List SweptEdge) where
 -- an edge whose target is the number of a key, which is the edge's
 pub record Leads (keys : List ℤ) (es : List SweptEdge) (e : ℕ) : Type 0 where
   pub to : ℕ
-  pub read : edge_target (held keys es) e ≡ target.At to
+  pub read : edge_target (held keys es) e ≡ Some to
   pub low : 2 ≤ to
   pub high : to < 2 + length keys
   pub keyed : vertex_key (held keys es) to ≡ edge_key (held keys es) e

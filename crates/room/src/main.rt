@@ -17,7 +17,9 @@ fn ask(keys: &mut [i32], words: &mut [u32], code: u32, k: i32) {
 fn main() {
     let mut keys = [0; KEYS_SIZE];
     let mut words = [0; WORDS_SIZE];
-    fresh(&mut keys, &mut words);
+    if fresh(&mut keys, &mut words).is_err() {
+        return;
+    }
     print_tally(on_vertices(&mut keys, &mut words, 1, 0, 1));
     // one more than fit; then one that is there
     ask(&mut keys, &mut words, 1, 254);

@@ -7,6 +7,7 @@ use native.Mathlib.Omega.{arith}
 use lib.Dec.{T, leb, leb→le}
 use lib.IntN.{pos}
 use lib.ListN.{length, get_or, length-set, length-append}
+use Rattle.std.proofs.Common.{Result, Ok, Err}
 use Rattle.catalogue.specs.Calls.{step}
 use Rattle.catalogue.specs.Catalogue.{fresh}
 use Rattle.catalogue.specs.Listing.{ReplyLine, reply_numbers}
@@ -16,8 +17,9 @@ use Rattle.catalogue.specs.Choosing.{after}
 use Rattle.catalogue.specs.Script.{Script, sum, most_requests, most_turns}
 use Rattle.catalogue.specs.Text.{decimal, number, line, lines}
 use Rattle.catalogue.specs.Workers.{busy, worker_at, request_of, idle_table}
+use Rattle.catalogue.specs.declared.answers.Refusal.{Refusal}
 use Rattle.catalogue.specs.declared.answers.Answer.{Answer}
-use Rattle.catalogue.specs.declared.answers.Answer.TheVariants.{Going, Reply, Refused}
+use Rattle.catalogue.specs.declared.answers.Answer.TheVariants.{Going, Reply}
 use Rattle.catalogue.specs.declared.workers.Place.{Place}
 use Rattle.catalogue.specs.declared.workers.Place.TheVariants.{Idle, AddV, RemV, ConV, AddEFindU, RemEFindU, ConEFindU, AddEFindV, RemEFindV, ConEFindV, AddE, RemE, ConE, Trial, TrialOpen}
 use Rattle.catalogue.specs.declared.workers.Request.{Request}
@@ -95,26 +97,26 @@ pub record Bounded (workers : ℕ) (r : Running) : Type 0 where
 
 -- what a reply adds
 module _ (rs : List ReplyLine) (short : length (reply_text rs) ≤ 11 * length rs) (position w code : ℕ) (a : position ≤ 8192) (b : w ≤ 9) (c : code ≤ 9) where
-  abbrev more : Answer → List ReplyLine
+  abbrev more : Result Answer Refusal → List ReplyLine
   more = with_reply rs position w code
 
-  more_replies : (x : Answer) → length (more x) ≡ length rs + replied x
-  more_replies (Going met) = omega arith
-  more_replies (Reply n) = length-append rs _
-  more_replies (Refused r) = omega arith
+  more_replies : (x : Result Answer Refusal) → length (more x) ≡ length rs + replied x
+  more_replies (Ok (Going met)) = omega arith
+  more_replies (Ok (Reply n)) = length-append rs _
+  more_replies (Err r) = omega arith
 
-  more_short : (x : Answer) → ((n : ℕ) → x ≡ Reply n → n ≤ 9) → length (reply_text (more x)) ≤ 11 * length (more x)
-  more_short (Going met) s = short
-  more_short (Reply n) s =
+  more_short : (x : Result Answer Refusal) → ((n : ℕ) → x ≡ Ok (Reply n) → n ≤ 9) → length (reply_text (more x)) ≤ 11 * length (more x)
+  more_short (Ok (Going met)) s = short
+  more_short (Ok (Reply n)) s =
       let r : ReplyLine = record { position = position; worker = w; code = code; reply = n } in
       omega (
         arith,
         ap length (reply_snoc rs r),
         length-append (reply_text rs) (line (reply_numbers r)),
         reply_length position w code n a b c (s n refl),
-        more_replies (Reply n),
+        more_replies (Ok (Reply n)),
       )
-  more_short (Refused r) s = short
+  more_short (Err r) s = short
 
 module _ (workers : ℕ) (few : workers ≤ 8) (r : Running) (b : Bounded workers r) (position w : ℕ) (timed : position ≤ most_turns) (h : w < workers) where
   steps_bounded : busy r.table w ≡ true → Bounded workers (steps_on r position w)

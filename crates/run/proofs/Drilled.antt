@@ -11,14 +11,15 @@ use mir.Val.{Fits}
 use lib.IntN.{ℤ, pos}
 use lib.ListN.{length, take, drop, length-append}
 use lib.Seq.{take_at}
+use Rattle.std.proofs.Common.{Result, Ok, Err}
 use Rattle.catalogue.specs.Text.{digits, number}
 use Rattle.catalogue.specs.Drill.{drill, printed}
 use Rattle.catalogue.specs.Script.{Script, Read, bad, good, read_script}
 use Rattle.catalogue.specs.Run.{run_text}
 use Rattle.catalogue.specs.Lent.{Memory, Sized, memory_of, output_size, output_fits, LentRun, after_run, lent_run}
 use Rattle.catalogue.specs.declared.answers.Refusal.{Refusal}
-use Rattle.catalogue.specs.declared.script.Ran.{Ran}
-use Rattle.catalogue.specs.declared.script.Ran.TheVariants as ran
+use Rattle.catalogue.specs.declared.script.RunError.{RunError}
+use Rattle.catalogue.specs.declared.script.RunError.TheVariants as run_error
 use Rattle.laws.proofs.Picks.{clash}
 use Rattle.text.specs.Puts.{put_at}
 use Rattle.text.proofs.Runs.{put_then, length_put_at}
@@ -72,7 +73,7 @@ unfolding lent_run
 ran_is text keys words output z h = rw (is_sized keys words z, full_output output h)
 
 -- by what was read
-good_told : (m : Memory) (output : List ℕ) (rd : Read Script) (bytes : ℕ) → (after_run m output rd).answer ≡ ran.Written bytes
+good_told : (m : Memory) (output : List ℕ) (rd : Read Script) (bytes : ℕ) → (after_run m output rd).answer ≡ Ok bytes
     → (take bytes (after_run m output rd).output ≡ printed rd) × (bytes ≤ length (after_run m output rd).output)
 good_told m output (bad n) bytes e = clash (cc)
 good_told m output (good s) bytes e =
@@ -80,41 +81,41 @@ good_told m output (good s) bytes e =
     let size : length text ≡ bytes = cc in
     (rw (sym size) (take_at text (drop (length text) output) (length text) refl), omega (arith, size, length-append text (drop (length text) output)))
 
-bad_told : (m : Memory) (output : List ℕ) (rd : Read Script) (line : ℕ) → (after_run m output rd).answer ≡ ran.BadScript line → printed (bad line) ≡ printed rd
+bad_told : (m : Memory) (output : List ℕ) (rd : Read Script) (line : ℕ) → (after_run m output rd).answer ≡ Err (run_error.BadScript line) → printed (bad line) ≡ printed rd
 bad_told m output (bad n) line e = let same : n ≡ line = cc in ap (λ k. printed (bad k)) (sym same)
 bad_told m output (good s) line e = clash (cc)
 
-not_refused : (m : Memory) (output : List ℕ) (rd : Read Script) (why : Refusal) → (after_run m output rd).answer ≡ ran.Refused why → ⊥
+not_refused : (m : Memory) (output : List ℕ) (rd : Read Script) (why : Refusal) → (after_run m output rd).answer ≡ Err (run_error.Refused why) → ⊥
 not_refused m output (bad n) why e = clash (cc)
 not_refused m output (good s) why e = clash (cc)
 
 module _ (text : List ℕ) (keys : List ℤ) (words output : List ℕ) (z : Sized keys words) (h : output_size ≤ length output)
-    (a : Ran) (keys' : List ℤ) (words' output' : List ℕ) (p : RunsScript text (memory_of keys words) output a keys' words' output') where
+    (a : Result ℕ RunError) (keys' : List ℤ) (words' output' : List ℕ) (p : RunsScript text (memory_of keys words) output a keys' words' output') where
   answered : a ≡ (ran_as text (memory_of keys words) output).answer
   answered = p.0 ∙ ap (λ r. r.answer) (ran_is text keys words output z h)
 
   left : output' ≡ (ran_as text (memory_of keys words) output).output
   left = p.1.1.1 ∙ ap (λ r. r.output) (ran_is text keys words output z h)
 
-  pub drill_written : (bytes : ℕ) → a ≡ ran.Written bytes → take bytes output' ≡ drill text
+  pub drill_written : (bytes : ℕ) → a ≡ Ok bytes → take bytes output' ≡ drill text
   unfolding drill
   drill_written bytes e = rw left (good_told (memory_of keys words) output (read_script text) bytes (sym answered ∙ e)).0
 
-  pub drill_within : (bytes : ℕ) → a ≡ ran.Written bytes → bytes ≤ length output'
+  pub drill_within : (bytes : ℕ) → a ≡ Ok bytes → bytes ≤ length output'
   drill_within bytes e = rw left (good_told (memory_of keys words) output (read_script text) bytes (sym answered ∙ e)).1
 
-  pub drill_bad : (line : ℕ) (r : ℕ) (out : List ℕ) → a ≡ ran.BadScript line → take r out ≡ printed (bad line) → take r out ≡ drill text
+  pub drill_bad : (e : RunError) (line : ℕ) (r : ℕ) (out : List ℕ) → a ≡ Err e → e ≡ run_error.BadScript line → take r out ≡ printed (bad line) → take r out ≡ drill text
   unfolding drill
-  drill_bad line r out e t = t ∙ bad_told (memory_of keys words) output (read_script text) line (sym answered ∙ e)
+  drill_bad e line r out q s t = t ∙ bad_told (memory_of keys words) output (read_script text) line (sym answered ∙ q ∙ ap Err s)
 
-  pub drill_sure : (why : Refusal) → a ≡ ran.Refused why → ⊥
-  drill_sure why e = not_refused (memory_of keys words) output (read_script text) why (sym answered ∙ e)
+  pub drill_sure : (e : RunError) (why : Refusal) → a ≡ Err e → e ≡ run_error.Refused why → ⊥
+  drill_sure e why q s = not_refused (memory_of keys words) output (read_script text) why (sym answered ∙ q ∙ ap Err s)
 
   -- a refusal keeps the length of the output
-  pub drill_room : (line : ℕ) → a ≡ ran.BadScript line → output_size ≤ length output'
-  drill_room line e = rw left (by (read_script text) (sym answered ∙ e))
+  pub drill_room : (e : RunError) (line : ℕ) → a ≡ Err e → e ≡ run_error.BadScript line → output_size ≤ length output'
+  drill_room e line q s = rw left (by (read_script text) (sym answered ∙ q ∙ ap Err s))
     where
-      by : (rd : Read Script) → (after_run (memory_of keys words) output rd).answer ≡ ran.BadScript line → output_size ≤ length (after_run (memory_of keys words) output rd).output
+      by : (rd : Read Script) → (after_run (memory_of keys words) output rd).answer ≡ Err (run_error.BadScript line) → output_size ≤ length (after_run (memory_of keys words) output rd).output
       by (bad n) q = h
       by (good s) q = clash (cc)
 

@@ -6,6 +6,7 @@ use mathlib.Core.Path.{◌≡◌, refl, ap}
 use native.Mathlib.Omega.{arith}
 use lib.ListN.{length, get_or, set, length-set}
 use lib.Seq.{set-get_or}
+use Rattle.std.proofs.Common.{Result, Ok, Err}
 use Rattle.catalogue.specs.Catalogue.{Catalogue}
 use Rattle.catalogue.specs.Calls.{After, refuse, worker_fits, perform, step, take_up}
 use Rattle.catalogue.specs.Steps.Decide.{decide}
@@ -26,10 +27,10 @@ use Rattle.laws.proofs.Picks.{clash, pick_both}
 use Rattle.promises.proofs.Fates.Any.{reply_small}
 use Rattle.run.proofs.Owed.{one, owed, owed_set}
 
-abbrev pub replied : Answer → ℕ
-replied (answer.Going met) = 0
-replied (answer.Reply n) = 1
-replied (answer.Refused r) = 0
+abbrev pub replied : Result Answer Refusal → ℕ
+replied (Ok (answer.Going met)) = 0
+replied (Ok (answer.Reply n)) = 1
+replied (Err r) = 0
 
 at_most_one : (p : Place) → one p ≤ 1
 at_most_one p = pick_both (λ n. n ≤ 1) (busy_at p) 1 0 (λ e. omega arith) (λ e. omega arith)
@@ -38,7 +39,7 @@ pub record Moves (t : Table) (w : ℕ) (a : After) : Type 0 where
   pub counted : a.table.count ≡ t.count
   pub long : length a.table.workers ≡ length t.workers
   pub owing : (ls : List (List Request)) → w < length t.workers → w < length ls → owed a.table.workers ls + replied a.answer ≤ owed t.workers ls
-  pub small : (n : ℕ) → a.answer ≡ answer.Reply n → n ≤ 9
+  pub small : (n : ℕ) → a.answer ≡ Ok (answer.Reply n) → n ≤ 9
 
 module _ (C : Catalogue) (t : Table) (w : ℕ) (on : busy t w ≡ true) where
   refuse_moves : (r : Refusal) → Moves t w (refuse C t r)
@@ -51,7 +52,7 @@ module _ (C : Catalogue) (t : Table) (w : ℕ) (on : busy t w ≡ true) where
       let busied : one (worker_at t w).place ≡ 1 = ap (λ b. pick b 1 0) on in
       omega (arith, ap (owed (set t.workers w x)) same, owed_set t.workers ls w x (get_or ls w []) h k)
 
-  going_moves : (C' : Catalogue) (x : Worker) (met : ℕ) → Moves t w (record { catalogue = C'; table = put t w x; answer = answer.Going met })
+  going_moves : (C' : Catalogue) (x : Worker) (met : ℕ) → Moves t w (record { catalogue = C'; table = put t w x; answer = Ok (answer.Going met) })
   going_moves C' x met = record {
     counted = refl;
     long = length-set t.workers w x;

@@ -20,8 +20,10 @@ use Rattle.catalogue.specs.Workers.{idle_table}
 use Rattle.laws.proofs.Picks.{both_true}
 use Rattle.memory.specs.Memories.{Hold}
 use Rattle.memory.proofs.Laid.{length_keys, length_words}
+use Rattle.std.proofs.lemmas.List.{length-map}
 use Rattle.script.specs.Checks.{IsScript, script_in, turns_from}
 use Rattle.script.specs.Turns.{turn_at}
+use Rattle.script.specs.declared.shares.Share.{Share}
 use Rattle.script.specs.declared.checks.Checked.{Checked}
 use Rattle.script.specs.declared.turns.Turn.{Turn}
 use Rattle.script.proofs.Cursors.{worker_share}
@@ -49,9 +51,9 @@ held_sized keys words r h = record { keyed = ap length h.0 ∙ length_keys r.cat
 module _ (text : List ℕ) (c : Checked) (k : IsScript text c) where
   -- ---- the start
 
-  module _ (counts_long : length c.counts ≡ 8) (starts_long : length c.starts ≡ 8) where
-    all : length (take c.workers c.counts) ≡ c.workers
-    all = length-take-le c.workers c.counts (omega (arith, k.few))
+  module _ (long_left : length c.shares ≡ 8) where
+    all : length (script_in text c).counts ≡ c.workers
+    all = length-map (take c.workers c.shares) (λ (s : Share). s.count) ∙ length-take-le c.workers c.shares (omega (arith, k.few))
 
     abbrev start : Running
     start = record {
@@ -61,7 +63,7 @@ module _ (text : List ℕ) (c : Checked) (k : IsScript text c) where
       replies = [];
     }
 
-    pub starts : (keys : List ℤ) (words l : List ℕ) (s : State) → Hold keys words fresh → length l ≡ lines_size → s ≡ begins c.workers c.starts c.counts → Playing text c keys words l s c.schedule 0
+    pub starts : (keys : List ℤ) (words l : List ℕ) (s : State) → Hold keys words fresh → length l ≡ lines_size → s ≡ begins c.workers c.shares → Playing text c keys words l s c.schedule 0
     unfolding run lines
     starts keys words l s h long e =
         let b : Bounded c.workers start = subst (λ (n : ℕ). Bounded n start) all (start_bounded (script_in text c) k.most) in
@@ -71,12 +73,11 @@ module _ (text : List ℕ) (c : Checked) (k : IsScript text c) where
           stands = rw e (record {
             held = h;
             manned = ap idle_table (sym all);
-            left = λ w q. worker_share text c k counts_long starts_long w (omega (arith, b.shared));
+            left = λ w q. worker_share text c k long_left w (omega (arith, b.shared));
             counted = refl;
             ended = refl;
             lined = refl;
-            left_long = counts_long;
-            at_long = starts_long;
+            left_long = long_left;
           });
           bounded = b;
           rest = ap (λ n. play start 1 (turns_from text n c.schedule)) whole;

@@ -1,23 +1,22 @@
 -- A script's run ends in a sound catalogue, so its result can be printed. What is printed is the result of the
 -- definition.
-use Prim.Native.Nat.{ℕ, ◌≤◌, ◌<◌}
-use mathlib.Core.Bool.{true, false}
+use Prim.Native.Nat.{ℕ, ◌≤◌}
+use mathlib.Core.Bool.{true}
 use mathlib.Core.List.{List}
-use mathlib.Core.Path.{◌≡◌, refl, sym, ap, ap₂, subst, ◌∙◌}
+use mathlib.Core.Path.{◌≡◌, sym, ap, ap₂, ◌∙◌}
 use native.Mathlib.Omega.{arith}
-use borrow.Author.Tests.{le-leb, lt-leb}
+use borrow.Author.Tests.{le-leb}
 use lib.IntN.{ℤ}
 use lib.ListN.{length, take, length-take}
+use Rattle.std.proofs.Common.{Ok}
 use Rattle.catalogue.specs.Catalogue.{Catalogue}
 use Rattle.catalogue.specs.Lent.{Memory, memory_of, view, lay, sized, output_fits, output_size, lent_run}
 use Rattle.catalogue.specs.Listing.{ReplyLine, result_text, written}
 use Rattle.catalogue.specs.Live.{live_edges}
 use Rattle.catalogue.specs.Numbers.{most_edges}
 use Rattle.catalogue.specs.Run.{run, run_text}
-use Rattle.catalogue.specs.Script.{Script, bad, good, read_script}
+use Rattle.catalogue.specs.Script.{Script, good, read_script}
 use Rattle.catalogue.specs.Soundness.{sound, listing}
-use Rattle.catalogue.specs.declared.answers.Refusal.TheVariants as refusal
-use Rattle.catalogue.specs.declared.script.Ran.TheVariants.{Written, Refused, BadScript}
 use Rattle.laws.proofs.Picks.{clash}
 use Rattle.memory.proofs.Agrees.{agree_laid}
 use Rattle.lent.proofs.Listings.{text_same}
@@ -26,9 +25,7 @@ use Rattle.listing.proofs.Results.{text_parts}
 use Rattle.resting.proofs.Sound.{edges_few}
 use Rattle.promises.proofs.Runs.Accepted.{scripts_played}
 use Rattle.promises.proofs.Runs.Course.{sound_at_rest}
-use Rattle.script.specs.Checks.{Answers, IsScript, script_in}
-use Rattle.script.specs.declared.checks.Verdict.{Verdict}
-use Rattle.script.specs.declared.checks.Verdict.TheVariants as verdict
+use Rattle.script.specs.Checks.{IsScript, script_in}
 use Rattle.script.specs.declared.checks.Checked.{Checked}
 use Rattle.survey.specs.Walks.{linked}
 use Rattle.run.specs.Prints.{printed, Printable}
@@ -75,29 +72,8 @@ module _ (text : List ℕ) (c : Checked) (k : IsScript text c) (keys : List ℤ)
   }
 
   pub ran : (m : Memory) → sized m ≡ true → (output output' : List ℕ) → output_size ≤ length output → (n : ℕ) → n ≡ length (printed keys words s.replies (take s.end l))
-      → output' ≡ written (printed keys words s.replies (take s.end l)) output → RunsScript text m output (Written n) keys words output'
+      → output' ≡ written (printed keys words s.replies (take s.end l)) output → RunsScript text m output (Ok n) keys words output'
   unfolding lent_run output_fits
   ran m h output output' room n a b =
       rw (h, le-leb output_size (length output) room, k.reads)
-      (ap Written (a ∙ ap length printed_is), (st.held.0, (st.held.1, b ∙ ap (λ (t : List ℕ). written t output) printed_is)))
-
--- ---- the call, by its checks
-
--- what the verdict says
-module _ (text : List ℕ) (v : Verdict) (c : Checked) (a : Answers text v c) where
-  pub bad_answer : (n : ℕ) → v ≡ verdict.Bad n → read_script text ≡ bad n
-  bad_answer n e = subst (λ (v : Verdict). Answers text v c) e a
-
-module _ (text : List ℕ) (m : Memory) (l : List ℕ) where
-  pub left_unsized : sized m ≡ false → RunsScript text m l (Refused refusal.Room) m.keys m.words l
-  unfolding lent_run
-  left_unsized h = rw h (refl, (refl, (refl, refl)))
-
-  module _ (h : sized m ≡ true) where
-    pub left_short : length l < output_size → RunsScript text m l (Refused refusal.Room) m.keys m.words l
-    unfolding lent_run output_fits
-    left_short short = rw (h, lt-leb output_size (length l) short) (refl, (refl, (refl, refl)))
-
-    pub left_bad : output_size ≤ length l → (n : ℕ) → read_script text ≡ bad n → RunsScript text m l (BadScript n) m.keys m.words l
-    unfolding lent_run output_fits
-    left_bad room n e = rw (h, le-leb output_size (length l) room, e) (refl, (refl, (refl, refl)))
+      (ap Ok (a ∙ ap length printed_is), (st.held.0, (st.held.1, b ∙ ap (λ (t : List ℕ). written t output) printed_is)))

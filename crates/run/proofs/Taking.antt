@@ -19,11 +19,13 @@ use Rattle.lent.proofs.Calls.{lent_take_up_laid}
 use Rattle.lent.proofs.Ranges.{TableInRange}
 use Rattle.memory.specs.Memories.{Hold}
 use Rattle.row.proofs.Base.{same?}
-use Rattle.script.specs.Checks.{requests_at}
-use Rattle.script.specs.Shares.{at_request}
+use Rattle.script.specs.Checks.{requests_at, share_of}
+use Rattle.digits.specs.Digits.{at_some}
 use Rattle.script.specs.Lines.{request_at}
-use Rattle.script.specs.declared.requests.Line.{Line}
-use Rattle.script.specs.declared.requests.Line.TheVariants as line
+use Rattle.script.specs.Shares.{share}
+use Rattle.script.specs.declared.shares.Share.{Share}
+use Rattle.std.specs.Prelude.{Option, None, Some}
+use Rattle.digits.specs.declared.numbers.Parsed.{Parsed}
 use Rattle.script.proofs.Cursors.{requests_none, requests_one}
 use Rattle.run.specs.Stands.{Stands}
 use Rattle.run.specs.Turns.{taken, taken_next}
@@ -44,24 +46,26 @@ module _ (text : List ℕ) (keys : List ℤ) (words l : List ℕ) (s : State) (r
 
   module _ (w : ℕ) (h : w < length r.left) (few : length r.left ≤ 8) (ranged : TableInRange r.table) (off : busy r.table w ≡ false) where
     abbrev cursor : ℕ
-    cursor = get_or s.at w 0
+    cursor = (share_of s.left w).start
 
-    same_request : (n next : ℕ) → get_or s.left w 0 ≡ suc n → (v : ℕ) → v < length (set r.left w (requests_at text n next))
-        → get_or (set r.left w (requests_at text n next)) v [] ≡ requests_at text (get_or (set s.left w (get_or s.left w 0 - 1)) v 0) (get_or (set s.at w next) v 0)
+    abbrev after : ℕ → Share
+    after next = share next ((share_of s.left w).count - 1)
+
+    same_request : (n next : ℕ) → (share_of s.left w).count ≡ suc n → (v : ℕ) → v < length (set r.left w (requests_at text n next))
+        → get_or (set r.left w (requests_at text n next)) v []
+        ≡ requests_at text (share_of (set s.left w (after next)) v).count (share_of (set s.left w (after next)) v).start
     same_request n next c v k =
         elim (same? v w) [
           | inl e ↦
-              let one : get_or s.left w 0 - 1 ≡ n = omega arith in
-              let a : get_or (set s.left w (get_or s.left w 0 - 1)) w 0 ≡ n = get_or-set_same s.left w _ 0 (omega (arith, st.left_long)) ∙ one in
-              let b : get_or (set s.at w next) w 0 ≡ next = get_or-set_same s.at w next 0 (omega (arith, st.at_long)) in
-              rw (e, get_or-set_same r.left w (requests_at text n next) [] h, a, b) refl
+              let one : (share_of s.left w).count - 1 ≡ n = omega arith in
+              let a : share_of (set s.left w (after next)) w ≡ share next n = get_or-set_same s.left w _ (share 0 0) (omega (arith, st.left_long)) ∙ ap (share next) one in
+              rw (e, get_or-set_same r.left w (requests_at text n next) [] h, a) refl
           | inr o ↦
-              let a : get_or (set s.left w (get_or s.left w 0 - 1)) v 0 ≡ get_or s.left v 0 = get_or-set_other s.left w v _ 0 o in
-              let b : get_or (set s.at w next) v 0 ≡ get_or s.at v 0 = get_or-set_other s.at w v next 0 o in
-              rw (get_or-set_other r.left w v (requests_at text n next) [] o, a, b) (st.left v (omega (arith, length-set r.left w (requests_at text n next))))
+              let a : share_of (set s.left w (after next)) v ≡ share_of s.left v = get_or-set_other s.left w v _ (share 0 0) o in
+              rw (get_or-set_other r.left w v (requests_at text n next) [] o, a) (st.left v (omega (arith, length-set r.left w (requests_at text n next))))
         ]
 
-    takes_one : (n : ℕ) (q : Request) (next : ℕ) → get_or s.left w 0 ≡ suc n → Stands text keys words l (taken m s w q next) (takes_up r w (q ∷ requests_at text n next))
+    takes_one : (n : ℕ) (q : Request) (next : ℕ) → (share_of s.left w).count ≡ suc n → Stands text keys words l (taken m s w q next) (takes_up r w (q ∷ requests_at text n next))
     takes_one n q next c =
         let call : lent_take_up m s.table w q ≡ after_call (take_up C r.table w q) =
         ap₂ (λ (m : Memory) (t : Table). lent_take_up m t w q) laid st.manned ∙ lent_take_up_laid C r.table ranged w q in
@@ -73,24 +77,27 @@ module _ (text : List ℕ) (keys : List ℤ) (words l : List ℕ) (s : State) (r
           ended = st.ended;
           lined = st.lined;
           left_long = length-set s.left w _ ∙ st.left_long;
-          at_long = length-set s.at w next ∙ st.at_long;
         }
 
+    -- a request and so many others after it
+    abbrev queue : ℕ → Option (Parsed Request) → List Request
+    queue n x = at_some x [] (λ p. p.value ∷ requests_at text n p.next)
+
     pub takes : Stands text keys words l (taken_next text m s w) (takes_up r w (get_or r.left w []))
-    takes = by (get_or s.left w 0) refl (request_at text cursor) refl
+    takes = by (share_of s.left w).count refl (request_at text cursor) refl
       where
-        left_one : (n : ℕ) → get_or s.left w 0 ≡ suc n → get_or r.left w [] ≡ at_request (request_at text cursor) [] (λ q next. q ∷ requests_at text n next)
+        left_one : (n : ℕ) → (share_of s.left w).count ≡ suc n → get_or r.left w [] ≡ queue n (request_at text cursor)
         left_one n e = st.left w h ∙ ap (λ n. requests_at text n cursor) e ∙ requests_one text n cursor
 
         stays : taken_next text m s w ≡ s → get_or r.left w [] ≡ [] → Stands text keys words l (taken_next text m s w) (takes_up r w (get_or r.left w []))
         stays a b = rw (a, b) st
 
-        by : (n : ℕ) → get_or s.left w 0 ≡ n → (x : Line) → request_at text cursor ≡ x → Stands text keys words l (taken_next text m s w) (takes_up r w (get_or r.left w []))
+        by : (n : ℕ) → (share_of s.left w).count ≡ n → (x : Option (Parsed Request)) → request_at text cursor ≡ x
+            → Stands text keys words l (taken_next text m s w) (takes_up r w (get_or r.left w []))
         by zero e x f = stays (sym (none_left text m s w e)) (st.left w h ∙ ap (λ n. requests_at text n cursor) e ∙ requests_none text cursor)
-        by (suc n) e line.Bad f =
-            stays (sym (bad_line text m s w (omega arith) line.Bad (sym f) refl)) (left_one n e ∙ ap (λ (x : Line). at_request x [] (λ q next. q ∷ requests_at text n next)) f)
-        by (suc n) e (line.Read q next) f =
-            let more : get_or r.left w [] ≡ q ∷ requests_at text n next = left_one n e ∙ ap (λ (x : Line). at_request x [] (λ q next. q ∷ requests_at text n next)) f in
-            let up : taken m s w q next ≡ taken_next text m s w =
-            taken_line text m s w (omega arith) (line.Read q next) (sym f) q next refl _ refl in
-            rw (sym up, more) (takes_one n q next e)
+        by (suc n) e None f = stays (sym (bad_line text m s w (omega arith) None (sym f) refl)) (left_one n e ∙ ap (queue n) f)
+        by (suc n) e (Some p) f =
+            let more : get_or r.left w [] ≡ p.value ∷ requests_at text n p.next = left_one n e ∙ ap (queue n) f in
+            let up : taken m s w p.value p.next ≡ taken_next text m s w =
+            taken_line text m s w (omega arith) (Some p) (sym f) p refl _ refl in
+            rw (sym up, more) (takes_one n p.value p.next e)

@@ -6,12 +6,14 @@ use native.Mathlib.Omega.{arith}
 use lib.IntN.{ℤ}
 use lib.ListN.{length, take, drop, length-append}
 use lib.Seq.{take_at, length-take-le}
+use Rattle.std.proofs.Common.{Result, Ok, Err}
 use Rattle.catalogue.specs.Catalogue.{Catalogue}
 use Rattle.catalogue.specs.Listing.{ReplyLine, reply_numbers}
 use Rattle.catalogue.specs.Run.{Running, with_reply}
 use Rattle.catalogue.specs.Text.{line}
+use Rattle.catalogue.specs.declared.answers.Refusal.{Refusal}
 use Rattle.catalogue.specs.declared.answers.Answer.{Answer}
-use Rattle.catalogue.specs.declared.answers.Answer.TheVariants.{Going, Reply, Refused}
+use Rattle.catalogue.specs.declared.answers.Answer.TheVariants.{Going, Reply}
 use Rattle.catalogue.specs.declared.workers.Table.{Table}
 use Rattle.memory.specs.Memories.{Hold}
 use Rattle.text.specs.Puts.{put_at}
@@ -38,13 +40,12 @@ module _ (text : List ℕ) (keys : List ℤ) (words l : List ℕ) (s : State) (r
       ended = st.ended;
       lined = st.lined;
       left_long = st.left_long;
-      at_long = st.at_long;
     }
 
-    pub tells : (a : Answer) → Stands text keys' words' (lines_told l s.end position w code a) (told s t position w code a)
+    pub tells : (a : Result Answer Refusal) → Stands text keys' words' (lines_told l s.end position w code a) (told s t position w code a)
         (record { catalogue = C'; table = t; left = r.left; replies = with_reply r.replies position w code a })
-    tells (Going met) = quiet
-    tells (Reply n) =
+    tells (Ok (Going met)) = quiet
+    tells (Ok (Reply n)) =
         let x : ReplyLine = record { position = position; worker = w; code = code; reply = n } in
         record {
           held = g;
@@ -54,6 +55,5 @@ module _ (text : List ℕ) (keys : List ℤ) (words l : List ℕ) (s : State) (r
           ended = omega (arith, st.ended, ap length (reply_snoc r.replies x), length-append (reply_text r.replies) (line (reply_numbers x)));
           lined = take_put l s.end (reply_bytes position w code n) room ∙ ap (λ t. t ++ reply_bytes position w code n) st.lined ∙ sym (reply_snoc r.replies x);
           left_long = st.left_long;
-          at_long = st.at_long;
         }
-    tells (Refused q) = quiet
+    tells (Err q) = quiet

@@ -7,7 +7,8 @@ use Rattle.catalogue.specs.Run.{Running}
 use Rattle.catalogue.specs.Text.{lines}
 use Rattle.catalogue.specs.Workers.{idle_table}
 use Rattle.memory.specs.Memories.{Hold}
-use Rattle.script.specs.Checks.{requests_at}
+use Rattle.script.specs.Checks.{requests_at, share_of}
+use Rattle.script.specs.declared.shares.Share.{Share}
 use Rattle.run.specs.declared.states.State.{State}
 
 -- the lines of replies
@@ -19,13 +20,12 @@ reply_text replies = lines (map reply_numbers replies)
 pub record Stands (text : List ℕ) (keys : List ℤ) (words told : List ℕ) (s : State) (r : Running) : Type 0 where
   pub held : Hold keys words r.catalogue
   pub manned : s.table ≡ r.table
-  pub left : (w : ℕ) → w < length r.left → get_or r.left w [] ≡ requests_at text (get_or s.left w 0) (get_or s.at w 0)
+  pub left : (w : ℕ) → w < length r.left → get_or r.left w [] ≡ requests_at text (share_of s.left w).count (share_of s.left w).start
   pub counted : s.replies ≡ length r.replies
   pub ended : s.end ≡ length (reply_text r.replies)
   pub lined : take s.end told ≡ reply_text r.replies
   pub left_long : length s.left ≡ most_workers
-  pub at_long : length s.at ≡ most_workers
 
 -- before the first turn
-abbrev pub begins : ℕ → List ℕ → List ℕ → State
-begins workers at left = record { table = idle_table workers; at = at; left = left; replies = 0; end = 0 }
+abbrev pub begins : ℕ → List Share → State
+begins workers left = record { table = idle_table workers; left = left; replies = 0; end = 0 }

@@ -1,17 +1,20 @@
 -- One turn on lent memory, as the code has it: what becomes of its state, of the memory and of the lines of the
 -- replies.
-use Rattle.std.specs.Prelude.{ℕ, ◌+◌, ◌-◌, ◌≤◌, true, List, [], ◌∷◌, ◌≡◌, ℤ, pos, length, get_or, set, eqb}
+use Rattle.std.specs.Prelude.{ℕ, ◌+◌, ◌-◌, ◌≤◌, true, List, [], ◌∷◌, ◌≡◌, ℤ, pos, length, set, eqb, Result, Ok, Err}
 use Rattle.catalogue.specs.Tests.{pick}
 use Rattle.catalogue.specs.Calls.{worker_fits}
 use Rattle.catalogue.specs.Lent.{Memory, Sized, lent_take_up, lent_step}
 use Rattle.catalogue.specs.Text.{line}
 use Rattle.catalogue.specs.Workers.{busy, worker_at, request_of}
+use Rattle.catalogue.specs.declared.answers.Refusal.{Refusal}
 use Rattle.catalogue.specs.declared.answers.Answer.{Answer}
-use Rattle.catalogue.specs.declared.answers.Answer.TheVariants.{Going, Reply, Refused}
+use Rattle.catalogue.specs.declared.answers.Answer.TheVariants.{Going, Reply}
 use Rattle.catalogue.specs.declared.workers.Request.{Request}
 use Rattle.catalogue.specs.declared.workers.Table.{Table}
-use Rattle.script.specs.Shares.{at_request}
+use Rattle.digits.specs.Digits.{at_some}
 use Rattle.script.specs.Lines.{request_at}
+use Rattle.script.specs.Shares.{share}
+use Rattle.script.specs.Checks.{share_of}
 use Rattle.text.specs.Puts.{put_at}
 use Rattle.run.specs.declared.states.State.{State}
 
@@ -26,18 +29,18 @@ reply_bytes position worker code n = line (pos position ∷ (pos worker ∷ (pos
 
 -- the state with another table
 abbrev pub moved : State → Table → State
-moved s t = record { table = t; at = s.at; left = s.left; replies = s.replies; end = s.end }
+moved s t = record { table = t; left = s.left; replies = s.replies; end = s.end }
 
-abbrev pub told : State → Table → ℕ → ℕ → ℕ → Answer → State
-told s t position worker code (Going met) = moved s t
-told s t position worker code (Reply n) =
-    record { table = t; at = s.at; left = s.left; replies = s.replies + 1; end = s.end + length (reply_bytes position worker code n) }
-told s t position worker code (Refused r) = moved s t
+abbrev pub told : State → Table → ℕ → ℕ → ℕ → Result Answer Refusal → State
+told s t position worker code (Ok (Going met)) = moved s t
+told s t position worker code (Ok (Reply n)) =
+    record { table = t; left = s.left; replies = s.replies + 1; end = s.end + length (reply_bytes position worker code n) }
+told s t position worker code (Err r) = moved s t
 
-abbrev pub lines_told : List ℕ → ℕ → ℕ → ℕ → ℕ → Answer → List ℕ
-lines_told lines end position worker code (Going met) = lines
-lines_told lines end position worker code (Reply n) = put_at lines end (reply_bytes position worker code n)
-lines_told lines end position worker code (Refused r) = lines
+abbrev pub lines_told : List ℕ → ℕ → ℕ → ℕ → ℕ → Result Answer Refusal → List ℕ
+lines_told lines end position worker code (Ok (Going met)) = lines
+lines_told lines end position worker code (Ok (Reply n)) = put_at lines end (reply_bytes position worker code n)
+lines_told lines end position worker code (Err r) = lines
 
 -- ---- the next request
 
@@ -45,15 +48,14 @@ lines_told lines end position worker code (Refused r) = lines
 abbrev pub taken : Memory → State → ℕ → Request → ℕ → State
 taken m s w q next = record {
   table = (lent_take_up m s.table w q).outcome.table;
-  at = set s.at w next;
-  left = set s.left w (get_or s.left w 0 - 1);
+  left = set s.left w (share next ((share_of s.left w).count - 1));
   replies = s.replies;
   end = s.end;
 }
 
 unfoldable pub taken_next : List ℕ → Memory → State → ℕ → State
 taken_next text m s w =
-    pick (eqb (get_or s.left w 0) 0) s (at_request (request_at text (get_or s.at w 0)) s (taken m s w))
+    pick (eqb (share_of s.left w).count 0) s (at_some (request_at text (share_of s.left w).start) s (λ p. taken m s w p.value p.next))
 
 -- ---- one turn
 

@@ -1,11 +1,12 @@
 // What the drill prints for a script: its result, or the refusal with the number of the first bad line.
 ghost use Rattle.std.specs.Prelude.{◌≡◌, ◌≤◌, length, take};
 ghost use Rattle.catalogue.specs.Drill.{drill};
-ghost use Rattle.catalogue.specs.Lent.{Sized, output_size};
+ghost use Rattle.catalogue.specs.Lent.{output_size};
 ghost use Rattle.run.specs.Drills.{refusal_text};
 
 use crate::call::run;
-use catalogue::script::Ran;
+use catalogue::script::RunError;
+use memory::{Keys, Words};
 use text::lines::put_natural_followed;
 use text::puts::put_bytes;
 
@@ -20,15 +21,14 @@ fn print_refusal(output: &mut [u8], line: u32) -> usize
 }
 
 // The text is at the start of the output, and so many bytes long.
-pub fn drill(text: &[u8], keys: &mut [i32], words: &mut [u32], output: &mut [u8]) -> usize
-    requires sized { Sized keys.old words.old }
-    requires output_size_in_bounds { output_size ≤ length output.old }
+pub fn drill(text: &[u8], keys: &mut Keys, words: &mut Words, output: &mut [u8]) -> usize
+    requires { output_size ≤ length output.old }
     ensures output_after { take result output.new ≡ drill text.now }
     ensures upper_bound { result ≤ length output.new }
 {
     match run(text, keys, words, output) {
-        Ran::Written { bytes } => bytes as usize,
-        Ran::BadScript { line } => print_refusal(output, line),
-        Ran::Refused { refusal: _ } => 0,
+        Ok(bytes) => bytes as usize,
+        Err(RunError::BadScript { line }) => print_refusal(output, line),
+        Err(RunError::Refused(_)) => 0,
     }
 }

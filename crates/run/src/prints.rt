@@ -5,15 +5,16 @@ ghost use Rattle.run.specs.Prints.{Printable, printed};
 
 use listing::body::list_body;
 use listing::contents::put_contents;
+use memory::Lent;
 use text::puts::put_bytes;
 
-pub fn print(keys: &[i32], words: &[u32], output: &mut [u8], replies: u32, lines: &[u8]) -> u32
-    requires { Printable keys.now words.now output.old lines.now }
-    ensures value { result ≡ length (printed keys.now words.now replies lines.now) }
-    ensures output_after { output.new ≡ written (printed keys.now words.now replies lines.now) output.old }
+pub fn print(lent: Lent, output: &mut [u8], replies: u32, lines: &[u8]) -> u32
+    requires { Printable lent.keys.now lent.words.now output.old lines.now }
+    ensures value { result ≡ length (printed lent.entry.keys.now lent.entry.words.now replies lines.now) }
+    ensures output_after { output.new ≡ written (printed lent.entry.keys.now lent.entry.words.now replies lines.now) output.old }
 {
-    let told = put_contents(words, output, 0, replies);
+    let told = put_contents(lent.words, output, 0, replies);
     let body = put_bytes(output, told, lines);
-    let end = list_body(keys, words, output, body);
+    let end = list_body(lent, output, body);
     end as u32
 }

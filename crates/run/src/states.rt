@@ -1,13 +1,12 @@
 // A run so far, as the code has it.
 use catalogue::workers::Table;
+use script::shares::Share;
 
-// The workers; where in the text each worker's next request stands, and how many it has left; how many replies there
-// are, and how many bytes their lines.
+// The workers; the request lines that each worker has left; how many replies there are, and how many bytes their lines.
 #[derive(Clone, Copy)]
 pub struct State {
     pub table: Table,
-    pub at: [usize; 8],
-    pub left: [u32; 8],
+    pub left: [Share; 8],
     pub replies: u32,
     pub end: usize,
 }

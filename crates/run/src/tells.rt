@@ -11,15 +11,7 @@ use text::lines::put_four;
 fn moved(s: State, table: Table) -> State
     ensures { result ≡ moved s table }
 {
-    let at = s.at;
-    let left = s.left;
-    State {
-        table,
-        at,
-        left,
-        replies: s.replies,
-        end: s.end,
-    }
+    State { table, ..s }
 }
 
 pub fn tell(lines: &mut [u8], s: State, position: u32, worker: u32, code: u32, o: Outcome) -> State
@@ -31,15 +23,12 @@ pub fn tell(lines: &mut [u8], s: State, position: u32, worker: u32, code: u32, o
     let table = o.table;
     let answer = o.answer;
     match answer {
-        Answer::Going { met: _ } => moved(s, table),
-        Answer::Refused { refusal: _ } => moved(s, table),
-        Answer::Reply { number } => {
+        Ok(Answer::Going { met: _ }) | Err(_) => moved(s, table),
+        Ok(Answer::Reply { number }) => {
             let end = put_four(lines, s.end, position, worker, code, number as u32);
-            let at = s.at;
             let left = s.left;
             State {
                 table,
-                at,
                 left,
                 replies: s.replies + 1,
                 end,

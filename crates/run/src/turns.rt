@@ -1,7 +1,7 @@
 // One turn of the schedule.
 ghost use Rattle.std.specs.Prelude.{◌≡◌, true};
 ghost use Rattle.catalogue.specs.Calls.{worker_fits};
-ghost use Rattle.catalogue.specs.Lent.{Sized, memory_of};
+ghost use Rattle.catalogue.specs.Lent.{memory_of};
 ghost use Rattle.catalogue.specs.Workers.{busy};
 ghost use Rattle.calls.specs.Promised.{Steps};
 ghost use Rattle.run.specs.Turns.{Ready, Turns};
@@ -12,12 +12,12 @@ use crate::tells::tell;
 use catalogue::answers::Outcome;
 use catalogue::workers::Table;
 use inplace::step_through;
+use memory::{Keys, Words};
 use workers::requests::{busy_at, request_of};
 use workers::table::{put, worker_at};
 
 // A busy worker's step: its record is taken out of the table, stepped by reference, and put back.
-fn step_on(keys: &mut [i32], words: &mut [u32], table: Table, worker: u32) -> Outcome
-    requires sized { Sized keys.old words.old }
+fn step_on(keys: &mut Keys, words: &mut Words, table: Table, worker: u32) -> Outcome
     requires worker_value { worker_fits table.count worker ≡ true }
     requires worker_value_2 { busy table worker ≡ true }
     ensures { Steps (memory_of keys.old words.old) table worker result keys.new words.new }
@@ -36,8 +36,8 @@ fn step_on(keys: &mut [i32], words: &mut [u32], table: Table, worker: u32) -> Ou
 
 pub fn turn(
     text: &[u8],
-    keys: &mut [i32],
-    words: &mut [u32],
+    keys: &mut Keys,
+    words: &mut Words,
     lines: &mut [u8],
     s: State,
     position: u32,

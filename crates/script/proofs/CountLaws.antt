@@ -1,10 +1,11 @@
 -- The words of a header, read one after the other.
 -- Each number joins the counts before it, and the one after all counts ends the line.
 use Prim.Native.Nat.{ℕ, ◌+◌, ◌-◌, ◌≤◌, ◌<◌}
-use mathlib.Core.Bool.{true, false}
+use mathlib.Core.Bool.{Bool, true, false}
 use mathlib.Core.List.{List, [], ◌∷◌, ◌++◌, append_assoc, append-nil}
 use mathlib.Core.Logic.{inl, inr}
-use mathlib.Core.Option.{Option, none, some}
+use mathlib.Core.Option.{none}
+use Rattle.std.specs.Prelude.{Option, None, Some}
 use mathlib.Core.Path.{◌≡◌, refl, sym, ap, ◌∙◌}
 use native.Mathlib.Omega.{arith}
 use native.Mathlib.Numerals.{add-one}
@@ -14,14 +15,14 @@ use lib.Seq.{length-take-le, take-suc, take-set-le, get_or-set_same}
 use borrow.Author.Tests.{lt-ltb, le-ltb, leb-false}
 use Rattle.catalogue.specs.Tests.{pick, given}
 use Rattle.catalogue.specs.Script.{all_of, natural, header_of, most_requests, most_turns}
-use Rattle.digits.specs.Digits.{most_number, number_fits}
+use Rattle.digits.specs.Digits.{most_number, number_fits, at_some, found}
 use Rattle.digits.proofs.Values.{none_or}
 use Rattle.laws.proofs.Cases.{lt_or}
-use Rattle.script.specs.Words.{number_at, at_number}
+use Rattle.script.specs.Words.{item, number_at}
 use Rattle.script.specs.Lines.{words_at}
-use Rattle.script.specs.Headers.{Numbered, numbered, header_parts, counting, counts_at, Counted}
-use Rattle.script.specs.declared.numbers.Number.{Number}
-use Rattle.script.specs.declared.numbers.Number.TheVariants as number
+use Rattle.script.specs.Headers.{Numbered, told, numbered, header_parts, counting, counts_at, Counted}
+use Rattle.script.specs.declared.numbers.Item.{Item}
+use Rattle.script.specs.declared.headers.Heading.{Heading}
 use Rattle.script.proofs.Tools.{none_if, given_none, all_pair, all_end, fitting}
 use Rattle.script.proofs.LineLaws.{words_none, Goes, read_on, by_number}
 use Rattle.script.proofs.HeaderParts.{sum_append, sum_pair, sum_none, parts, header_made, header_late, header_off, header_sum, header_large}
@@ -81,17 +82,17 @@ module _ (workers i total : ℕ) (counts : List ℕ) (k : Counted workers i tota
   }
 
   module _ (text : List ℕ) (at : ℕ) where
-    abbrev by_count : Number → Option Numbered
+    abbrev by_count : Option (Item ℕ) → Option Numbered
     by_count r =
-        at_number r none (λ n next last. pick (ltb i workers)
-        (pick last none (pick (ltb (most_requests - total) n) none (counts_at workers (take (i + 1) (set counts i n)) text next)))
-        (pick last (pick (ltb most_turns n) none (some (header_parts workers total counts n next))) none))
+        at_some r None (λ n. pick (ltb i workers)
+        (pick n.last None (pick (ltb (most_requests - total) n.value) None (counts_at workers (take (i + 1) (set counts i n.value)) text n.next)))
+        (pick n.last (pick (ltb most_turns n.value) None (Some (header_parts workers total counts n.value n.next))) None))
 
-    pub counts_is : (o : Option Numbered) → o ≡ by_count (number_at text at) → o ≡ counts_at workers front text at
+    counts_are : counts_at workers front text at ≡ by_count (number_at text at)
     unfolding counts_at
-    counts_is o e = e ∙ sym (ap numbered (by_number text at (counting workers front) (λ n. counting workers (front ++ (n ∷ []))) (goes workers front)) ∙ by (number_at text at))
+    counts_are = ap numbered (by_number text at (counting workers front) (λ n. counting workers (front ++ (n ∷ []))) (goes workers front)) ∙ by (number_at text at)
       where
-        ending : (n next : ℕ) → numbered (given (header_of (workers ∷ (front ++ (n ∷ [])))) none (λ h. some (h, next))) ≡ by_count (number.At n next true)
+        ending : (n next : ℕ) → numbered (given (header_of (workers ∷ (front ++ (n ∷ [])))) None (λ h. found h next)) ≡ by_count (item n next true)
         ending n next =
             elim (lt_or i workers) [
               | inl l ↦ rw (lt-ltb i workers l, header_off workers front n [] (omega (arith, long)))
@@ -103,7 +104,7 @@ module _ (workers i total : ℕ) (counts : List ℕ) (k : Counted workers i tota
               ]
             ]
 
-        going : (n next : ℕ) → numbered (words_at (counting workers (front ++ (n ∷ []))) text next) ≡ by_count (number.At n next false)
+        going : (n next : ℕ) → numbered (words_at (counting workers (front ++ (n ∷ []))) text next) ≡ by_count (item n next false)
         going n next =
             elim (lt_or i workers) [
               | inl l ↦ elim (lt_or (most_requests - total) n) [
@@ -117,12 +118,61 @@ module _ (workers i total : ℕ) (counts : List ℕ) (k : Counted workers i tota
               | inr l ↦ rw (le-ltb i workers l, words_none text next (counting workers (front ++ (n ∷ []))) (full workers (front ++ (n ∷ [])) (omega (arith, long, length-append front (n ∷ [])))))
             ]
 
-        by : (r : Number) → numbered (at_number r none (read_on text (λ n. counting workers (front ++ (n ∷ []))))) ≡ by_count r
-        by number.Bad = refl
-        by (number.At n next true) = rw (last_of workers front n) (ending n next)
-        by (number.At n next false) = going n next
+        item_is : (n next : ℕ) (last : Bool) → numbered (at_some (item n next last) None (read_on text (λ n. counting workers (front ++ (n ∷ []))))) ≡ by_count (item n next last)
+        item_is n next true = rw (last_of workers front n) (ending n next)
+        item_is n next false = going n next
 
-pub counted_none : (workers : ℕ) → 1 ≤ workers → workers ≤ 8 → Counted workers 0 0 (replicate 8 0)
-counted_none workers one few = record { one = one; few = few; within = omega arith; summed = sym sum_none; most = omega arith; long = refl }
+        by : (r : Option (Item ℕ)) → numbered (at_some r None (read_on text (λ n. counting workers (front ++ (n ∷ []))))) ≡ by_count r
+        by None = refl
+        by (Some n) = item_is n.value n.next n.last
 
-pub ruleset counts_cases = (counted_none, counted_on, counts_is)
+-- some counts are read, and what is left of the line is what was asked for
+pub record Counting (text : List ℕ) (workers at i total place : ℕ) (counts : List ℕ) : Type 0 where
+  pub counted : Counted workers i total counts
+  pub same : counts_at workers (take i counts) text place ≡ counts_at workers [] text at
+
+pub counting_none : (text : List ℕ) (workers at : ℕ) → 1 ≤ workers → workers ≤ 8 → Counting text workers at 0 0 at (replicate 8 0)
+counting_none text workers at one few = record {
+  counted = record { one = one; few = few; within = omega arith; summed = sym sum_none; most = omega arith; long = refl };
+  same = refl;
+}
+
+module _ (text : List ℕ) (workers at i total place : ℕ) (counts : List ℕ) (c : Counting text workers at i total place counts) where
+  k : Counted workers i total counts
+  k = c.counted
+
+  asked : counts_at workers [] text at ≡ by_count workers i total counts k text place (number_at text place)
+  asked = sym c.same ∙ counts_are workers i total counts k text place
+
+  module _ (r : Option (Item ℕ)) (e : r ≡ number_at text place) where
+    pub count_bad : (o : Option Heading) → r ≡ None → o ≡ None → told o ≡ counts_at workers [] text at
+    count_bad o q d = rw d (sym (asked ∙ rw (sym e, q)))
+
+    module _ (n : Item ℕ) (q : r ≡ Some n) where
+      read : number_at text place ≡ Some n
+      read = sym e ∙ q
+
+      module _ (h : i < workers) where
+        pub count_last : n.last ≡ true → told None ≡ counts_at workers [] text at
+        count_last l = sym (asked ∙ rw (read, lt-ltb i workers h, l))
+
+        pub count_large : n.last ≡ false → most_requests - total < n.value → told None ≡ counts_at workers [] text at
+        count_large l g = sym (asked ∙ rw (read, lt-ltb i workers h, l, lt-ltb (most_requests - total) n.value g))
+
+        pub counting_on : n.last ≡ false → n.value ≤ most_requests - total → Counting text workers at (i + 1) (total + n.value) n.next (set counts i n.value)
+        counting_on l g = record {
+          counted = counted_on workers i total counts k n.value h g;
+          same = sym (asked ∙ rw (read, lt-ltb i workers h, l, le-ltb (most_requests - total) n.value g));
+        }
+
+      module _ (h : workers ≤ i) where
+        pub count_more : n.last ≡ false → told None ≡ counts_at workers [] text at
+        count_more l = sym (asked ∙ rw (read, le-ltb i workers h, l))
+
+        pub count_late : n.last ≡ true → most_turns < n.value → told None ≡ counts_at workers [] text at
+        count_late l g = sym (asked ∙ rw (read, le-ltb i workers h, l, lt-ltb most_turns n.value g))
+
+        pub count_end : n.last ≡ true → n.value ≤ most_turns → Some (header_parts workers total counts n.value n.next) ≡ counts_at workers [] text at
+        count_end l g = sym (asked ∙ rw (read, le-ltb i workers h, l, le-ltb most_turns n.value g))
+
+pub ruleset counts_cases = (refl, tt, counting_none, counting_on, count_bad, count_last, count_large, count_more, count_late, count_end)

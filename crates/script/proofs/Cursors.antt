@@ -7,12 +7,13 @@ use native.Mathlib.Omega.{arith}
 use lib.ListN.{length, get_or, take}
 use lib.Seq.{length-take-le, get_or-take}
 use Rattle.catalogue.specs.Run.{shares}
-use Rattle.script.specs.Words.{number_at}
+use Rattle.script.specs.Words.{item, number_at}
 use Rattle.script.specs.Lines.{request_at}
-use Rattle.script.specs.Shares.{at_request}
+use Rattle.digits.specs.Digits.{at_some}
+use Rattle.script.specs.Shares.{share}
 use Rattle.script.specs.Turns.{turn_at}
-use Rattle.script.specs.Checks.{requests_at, shares_at, turns_from, script_in, IsScript}
-use Rattle.script.specs.declared.numbers.Number.TheVariants.{At}
+use Rattle.script.specs.Checks.{requests_at, shares_at, share_of, turns_from, script_in, IsScript}
+use Rattle.script.specs.declared.shares.Share.{Share}
 use Rattle.script.specs.declared.checks.Checked.{Checked}
 
 module _ (text : List ℕ) where
@@ -20,7 +21,7 @@ module _ (text : List ℕ) where
   unfolding requests_at
   requests_none at = refl
 
-  pub requests_one : (count at : ℕ) → requests_at text (suc count) at ≡ at_request (request_at text at) [] (λ q next. q ∷ requests_at text count next)
+  pub requests_one : (count at : ℕ) → requests_at text (suc count) at ≡ at_some (request_at text at) [] (λ r. r.value ∷ requests_at text count r.next)
   unfolding requests_at
   requests_one count at = refl
 
@@ -28,23 +29,21 @@ module _ (text : List ℕ) where
   unfolding turns_from
   turns_none at = refl
 
-  pub turns_one : (turns at w next : ℕ) (last : Bool) → number_at text at ≡ At w next last → turns_from text (suc turns) at ≡ w ∷ turns_from text turns next
+  pub turns_one : (turns at w next : ℕ) (last : Bool) → number_at text at ≡ item w next last → turns_from text (suc turns) at ≡ w ∷ turns_from text turns next
   unfolding turns_from turn_at
   turns_one turns at w next last e = rw e
 
   -- a worker's requests stand from its start on
-  share_of : (counts starts : List ℕ) (w : ℕ) → w < length counts → w < length starts → get_or (shares_at text counts starts) w [] ≡ requests_at text (get_or counts w 0) (get_or starts w 0)
+  own_share : (ss : List Share) (w : ℕ) → w < length ss → get_or (shares_at text ss) w [] ≡ requests_at text (share_of ss w).count (share_of ss w).start
   unfolding shares_at
-  share_of [] starts w h l = absurd (omega arith)
-  share_of (count ∷ counts) [] w h l = absurd (omega arith)
-  share_of (count ∷ counts) (at ∷ starts) zero h l = refl
-  share_of (count ∷ counts) (at ∷ starts) (suc w) h l = share_of counts starts w (omega arith) (omega arith)
+  own_share [] w h = absurd (omega arith)
+  own_share (s ∷ ss) zero h = refl
+  own_share (s ∷ ss) (suc w) h = own_share ss w (omega arith)
 
-  pub worker_share : (r : Checked) → IsScript text r → length r.counts ≡ 8 → length r.starts ≡ 8 → (w : ℕ) → w < r.workers
-      → get_or (shares (script_in text r).counts (script_in text r).requests) w [] ≡ requests_at text (get_or r.counts w 0) (get_or r.starts w 0)
-  worker_share r k c s w h =
-      let a : length (take r.workers r.counts) ≡ r.workers = length-take-le r.workers r.counts (omega (arith, k.few)) in
-      let b : length (take r.workers r.starts) ≡ r.workers = length-take-le r.workers r.starts (omega (arith, k.few)) in
+  pub worker_share : (r : Checked) → IsScript text r → length r.shares ≡ 8 → (w : ℕ) → w < r.workers
+      → get_or (shares (script_in text r).counts (script_in text r).requests) w [] ≡ requests_at text (share_of r.shares w).count (share_of r.shares w).start
+  worker_share r k l w h =
+      let a : length (take r.workers r.shares) ≡ r.workers = length-take-le r.workers r.shares (omega (arith, k.few)) in
       ap (λ l. get_or l w []) k.shared
-      ∙ share_of (take r.workers r.counts) (take r.workers r.starts) w (omega arith) (omega arith)
-      ∙ rw (get_or-take r.workers r.counts w 0 h, get_or-take r.workers r.starts w 0 h)
+      ∙ own_share (take r.workers r.shares) w (omega arith)
+      ∙ rw (get_or-take r.workers r.shares w (share 0 0) h)

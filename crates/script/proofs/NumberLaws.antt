@@ -3,7 +3,9 @@ use Prim.Native.Nat.{ℕ, suc, ◌+◌}
 use mathlib.Core.Bool.{Bool, true, false}
 use mathlib.Core.List.{List, [], ◌∷◌, ◌++◌, append-nil}
 use mathlib.Core.Logic.{inl, inr}
-use mathlib.Core.Option.{Option, none, some}
+use mathlib.Core.Option.{none, some}
+use mathlib.Core.Option as maybe
+use Rattle.std.specs.Prelude.{Option, None, Some}
 use mathlib.Core.Path.{◌≡◌, refl, sym, ap, ◌∙◌}
 use native.Mathlib.Omega.{arith}
 use mir.Syntax.{w32}
@@ -20,31 +22,28 @@ use Rattle.catalogue.specs.Numbers.{greatest}
 use Rattle.catalogue.specs.Script.{natural, signed, key_fits}
 use Rattle.laws.proofs.Ways.{on_true, on_false}
 use Rattle.laws.proofs.Cases.{same?, lt_or}
-use Rattle.digits.specs.Digits.{digits_of, signed_of, piece_in, most_number, number_fits, signed_fits, as_digits, digits_at, at_digits, as_signed, signed_at, at_signed}
-use Rattle.digits.proofs.Values.{none_or, digit_or}
+use Rattle.digits.specs.Digits.{digits_of, signed_of, piece_in, most_number, number_fits, signed_fits, at_some, found, digits_at, signed_at}
+use Rattle.digits.specs.declared.numbers.Parsed.{Parsed}
+use Rattle.digits.proofs.Values.{digit_or}
 use Rattle.digits.proofs.Signs.{cut_minus, cut_plain}
 use Rattle.digits.proofs.Stops.{number_stops, signed_stops}
-use Rattle.script.proofs.Tools.{pick_through, pick_in}
-use Rattle.script.proofs.Taken.{digits_none, digits_taken, signed_none, signed_taken, end_none, end_taken}
-use Rattle.script.specs.Words.{Word, next_word, longer, behind, Item, tested, item_in, item_at, as_number, number_at, as_key, key_at, end_at, at_end}
-use Rattle.script.specs.declared.numbers.Number.{Number}
-use Rattle.script.specs.declared.numbers.Number.TheVariants as number
+use Rattle.script.proofs.Tools.{pick_alike, pick_through, pick_in}
+use Rattle.script.proofs.Taken.{some_none, some_taken}
+use Rattle.script.specs.Words.{Word, next_word, longer, behind, tested, item, item_in, item_at, number_at, key_at, end_at, ended}
+use Rattle.script.specs.declared.numbers.Item.{Item}
 use Rattle.script.specs.declared.numbers.End.{End}
-use Rattle.script.specs.declared.numbers.End.TheVariants.{None, At}
-use Rattle.script.specs.declared.keys.Key.{Key}
-use Rattle.script.specs.declared.keys.Key.TheVariants as key
 
 -- ---- a word begins with its digits
 
-abbrev led : List ℕ → Option Word → Option Word
+abbrev led : List ℕ → maybe.Option Word → maybe.Option Word
 led w none = none
 led w (some v) = some (record { bytes = w ++ v.bytes; last = v.last })
 
-led_none : (o : Option Word) → led [] o ≡ o
+led_none : (o : maybe.Option Word) → led [] o ≡ o
 led_none none = refl
 led_none (some v) = refl
 
-led_longer : (b : ℕ) (w : List ℕ) (o : Option Word) → longer b (led w o) ≡ led (b ∷ w) o
+led_longer : (b : ℕ) (w : List ℕ) (o : maybe.Option Word) → longer b (led w o) ≡ led (b ∷ w) o
 led_longer b w none = refl
 led_longer b w (some v) = refl
 
@@ -74,7 +73,7 @@ signed_led (b ∷ bs) =
 
 -- ---- what follows a piece
 
-end_cases : (text : List ℕ) (at : ℕ) (P : Option Word → End → Type 0) → P none None → ((last : Bool) → P (some (record { bytes = []; last = last })) (At (at + 1) last))
+end_cases : (text : List ℕ) (at : ℕ) (P : maybe.Option Word → Option End → Type 0) → P none None → ((last : Bool) → P (some (record { bytes = []; last = last })) (Some (record { next = at + 1; last = last })))
     → ((b : ℕ) (bs : List ℕ) → drop at text ≡ b ∷ bs → P (longer b (next_word bs)) None) → P (next_word (drop at text)) (end_at text at)
 unfolding next_word end_at
 end_cases text at P missing ended other =
@@ -92,37 +91,42 @@ end_cases text at P missing ended other =
 
 -- ---- by any reading of pieces
 
-module _ {X : Type 0} (reading : List ℕ → Option X) (whole more fits : X → Bool) (both : (x : X) → fits x ≡ pick (whole x) (more x) false)
+module _ {X : Type 0} (reading : List ℕ → maybe.Option X) (whole more fits : X → Bool) (both : (x : X) → fits x ≡ pick (whole x) (more x) false)
     (cut : List ℕ → List ℕ) (leads : (t : List ℕ) → next_word t ≡ led (cut t) (next_word (drop (length (cut t)) t)))
     (stops : (b : ℕ) (bs v t : List ℕ) → drop (length (cut t)) t ≡ b ∷ bs → reading (cut t ++ (b ∷ v)) ≡ none) (text : List ℕ) (at : ℕ) where
   abbrev piece : List ℕ
   piece = cut (drop at text)
 
-  abbrev ended : End → X → Option (Item X)
-  ended e x = at_end e none (λ next last. pick (more x) (some (record { value = x; last = last; next = next })) none)
+  abbrev kept : Item X → Option (Item X)
+  kept i = pick (more i.value) (Some i) None
 
-  nothing : (o : Option X) → none ≡ given o none (λ x. pick (whole x) (ended None x) none)
+  abbrev ending : Option End → X → Option (Item X)
+  ending e x = at_some (at_some e None (λ e. item x e.next e.last)) None kept
+
+  nothing : (o : maybe.Option X) → None ≡ given o None (λ x. pick (whole x) (ending None x) None)
   nothing none = refl
-  nothing (some x) = sym (none_or (whole x) none refl)
+  nothing (some x) = sym (pick_alike (whole x) None)
 
-  judged : (last : Bool) (o : Option X) → tested fits last (at + length piece + 1) o ≡ given o none (λ x. pick (whole x) (ended (At (at + length piece + 1) last) x) none)
+  judged : (last : Bool) (o : maybe.Option X)
+      → tested fits last (at + length piece + 1) o ≡ given o None (λ x. pick (whole x) (ending (Some (record { next = at + length piece + 1; last = last })) x) None)
   judged last none = refl
-  judged last (some x) = rw (both x) (pick_in (whole x) (more x) (some (record { value = x; last = last; next = at + length piece + 1 })))
+  judged last (some x) = rw (both x) (pick_in (whole x) (more x) (item x (at + length piece + 1) last) None)
 
-  followed : (b : ℕ) (bs : List ℕ) → drop (length piece) (drop at text) ≡ b ∷ bs → (o : Option Word)
-      → item_in reading fits at (led piece (longer b o)) ≡ none
+  followed : (b : ℕ) (bs : List ℕ) → drop (length piece) (drop at text) ≡ b ∷ bs → (o : maybe.Option Word)
+      → item_in reading fits at (led piece (longer b o)) ≡ None
   followed b bs e none = refl
   followed b bs e (some v) = rw (stops b bs v.bytes (drop at text) e)
 
-  pieced : (end : ℕ) (o : Option X)
-      → given o none (λ x. pick (whole x) (ended (end_at text end) x) none) ≡ given {A = X × ℕ} (given o none (λ x. pick (whole x) (some (x, end)) none)) none (λ p. ended (end_at text p.1) p.0)
+  pieced : (end : ℕ) (o : maybe.Option X)
+      → given o None (λ x. pick (whole x) (ending (end_at text end) x) None)
+      ≡ at_some (given o None (λ x. pick (whole x) (found x end) None)) None (λ p. at_some (ended text p) None kept)
   pieced end none = refl
-  pieced end (some x) = sym (pick_through (λ o. given {A = X × ℕ} o none (λ p. ended (end_at text p.1) p.0)) (whole x) (some (x, end)) none)
+  pieced end (some x) = sym (pick_through (λ o. at_some o None (λ p. at_some (ended text p) None kept)) (whole x) (found x end) None)
 
-  item_ended : item_at reading fits text at ≡ given (piece_in reading whole at piece) none (λ p. ended (end_at text p.1) p.0)
+  item_ended : item_at reading fits text at ≡ at_some (piece_in reading whole at piece) None (λ p. at_some (ended text p) None kept)
   item_ended =
       rw (leads (drop at text), drop-drop (length piece) at text)
-      (end_cases text (at + length piece) (λ o e. item_in reading fits at (led piece o) ≡ given (reading piece) none (λ x. pick (whole x) (ended e x) none))
+      (end_cases text (at + length piece) (λ o e. item_in reading fits at (led piece o) ≡ given (reading piece) None (λ x. pick (whole x) (ending e x) None))
       (nothing (reading piece))
       (λ last. let e : behind at piece ≡ at + length piece + 1 = omega arith in rw (append-nil, e) (judged last (reading piece)))
       (λ b bs e. followed b bs (drop-drop (length piece) at text ∙ e) (next_word bs) ∙ nothing (reading piece)))
@@ -131,35 +135,27 @@ module _ {X : Type 0} (reading : List ℕ → Option X) (whole more fits : X →
 -- ---- numbers, and keys that are not reserved
 
 module _ (text : List ℕ) (at : ℕ) where
-  abbrev numbered : ℕ → End → Number
-  numbered n e = at_end e number.Bad (λ next last. number.At n next last)
-
-  pub number_is : (r : Number) → r ≡ at_digits (digits_at text at) number.Bad (λ n end. numbered n (end_at text end)) → r ≡ number_at text at
+  pub number_is : (r : Option (Item ℕ)) → r ≡ at_some (digits_at text at) None (ended text) → r ≡ number_at text at
   unfolding number_at digits_at
   number_is r e =
-      e ∙ rw (item_ended natural number_fits (λ n. true) number_fits same digits_of digits_led number_stops text at)
-      (by (piece_in natural number_fits at (digits_of (drop at text))))
+      e ∙ by (piece_in natural number_fits at (digits_of (drop at text)))
+      ∙ sym (item_ended natural number_fits (λ n. true) number_fits same digits_of digits_led number_stops text at)
     where
       same : (n : ℕ) → number_fits n ≡ pick (number_fits n) true false
       same n = elim (number_fits n) as (λ t. t ≡ pick t true false) [ true ↦ refl | false ↦ refl ]
 
-      followed_by : (n : ℕ) (e : End) → numbered n e ≡ as_number (at_end e none (λ next last. some (record { value = n; last = last; next = next })))
-      followed_by n None = refl
-      followed_by n (At next last) = refl
+      all : (o : Option (Item ℕ)) → o ≡ at_some o None (λ i. Some i)
+      all None = refl
+      all (Some i) = refl
 
-      by : (o : Option (ℕ × ℕ)) → at_digits (as_digits o) number.Bad (λ n end. numbered n (end_at text end))
-          ≡ as_number (given o none (λ p. at_end (end_at text p.1) none (λ next last. some (record { value = p.0; last = last; next = next }))))
-      by none = refl
-      by (some p) = followed_by p.0 (end_at text p.1)
+      by : (o : Option (Parsed ℕ)) → at_some o None (ended text) ≡ at_some o None (λ p. at_some (ended text p) None (λ i. Some i))
+      by None = refl
+      by (Some p) = all (ended text p)
 
-  abbrev unreserved : ℤ → End → Key
-  unreserved k e = at_end e key.Bad (λ next last. pick (lt_z k greatest) (key.At k next last) key.Bad)
-
-  pub key_is : (r : Key) → r ≡ at_signed (signed_at text at) key.Bad (λ k end. unreserved k (end_at text end)) → r ≡ key_at text at
+  pub key_is : (r : Option (Item ℤ))
+      → r ≡ at_some (signed_at text at) None (λ p. at_some (ended text p) None (λ i. pick (lt_z i.value greatest) (Some i) None)) → r ≡ key_at text at
   unfolding key_at signed_at
-  key_is r e =
-      e ∙ rw (item_ended signed signed_fits (λ k. lt_z k greatest) key_fits both_fit signed_of signed_led signed_stops text at)
-      (by (piece_in signed signed_fits at (signed_of (drop at text))))
+  key_is r e = e ∙ sym (item_ended signed signed_fits (λ k. lt_z k greatest) key_fits both_fit signed_of signed_led signed_stops text at)
     where
       both_fit : (k : ℤ) → key_fits k ≡ pick (signed_fits k) (lt_z k greatest) false
       both_fit (pos n) =
@@ -169,26 +165,14 @@ module _ (text : List ℕ) (at : ℕ) where
           ]
       both_fit (negsuc n) = refl
 
-      followed_by : (k : ℤ) (e : End) → unreserved k e ≡ as_key (at_end e none (λ next last. pick (lt_z k greatest) (some (record { value = k; last = last; next = next })) none))
-      followed_by k None = refl
-      followed_by k (At next last) = sym (pick_through as_key (lt_z k greatest) (some (record { value = k; last = last; next = next })) none)
-
-      by : (o : Option (ℤ × ℕ)) → at_signed (as_signed o) key.Bad (λ k end. unreserved k (end_at text end))
-          ≡ as_key (given o none (λ p. at_end (end_at text p.1) none (λ next last. pick (lt_z p.0 greatest) (some (record { value = p.0; last = last; next = next })) none)))
-      by none = refl
-      by (some p) = followed_by p.0 (end_at text p.1)
-
 -- a key is compared and passed on through its bits
 module _ (k : ℤ) where
-  pub key_below : (x a b : Key) → lt_z (to_z w32 (of_z w32 k)) greatest ≡ true → SFits w32 k → x ≡ a → x ≡ pick (lt_z k greatest) a b
+  pub key_below : (x a b : Option (Item ℤ)) → lt_z (to_z w32 (of_z w32 k)) greatest ≡ true → SFits w32 k → x ≡ a → x ≡ pick (lt_z k greatest) a b
   key_below x a b e h q = on_true x (lt_z k greatest) a b (rw (to_z-of_z h) at e) q
 
-  pub key_reserved : (x a b : Key) → lt_z (to_z w32 (of_z w32 k)) greatest ≡ false → SFits w32 k → x ≡ b → x ≡ pick (lt_z k greatest) a b
+  pub key_reserved : (x a b : Option (Item ℤ)) → lt_z (to_z w32 (of_z w32 k)) greatest ≡ false → SFits w32 k → x ≡ b → x ≡ pick (lt_z k greatest) a b
   key_reserved x a b e h q = on_false x (lt_z k greatest) a b (rw (to_z-of_z h) at e) q
 
-  pub key_same : (next : ℕ) (last : Bool) → SFits w32 k → key.At (to_z w32 (of_z w32 k)) next last ≡ key.At k next last
-  key_same next last h = rw (to_z-of_z h)
+pub ruleset number_cases = (refl, tt, some_none, some_taken, number_is)
 
-pub ruleset number_cases = (refl, digits_none, digits_taken, end_none, end_taken, number_is)
-
-pub ruleset key_cases = (refl, signed_none, signed_taken, end_none, end_taken, key_is, key_below, key_reserved, key_same, sfits_of)
+pub ruleset key_cases = (refl, tt, some_none, some_taken, key_is, key_below, key_reserved, sfits_of)

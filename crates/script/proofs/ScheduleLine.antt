@@ -2,7 +2,9 @@
 -- position.
 use Prim.Native.Nat.{ℕ, suc, ◌+◌, ◌≤◌, ◌<◌}
 use mathlib.Core.List.{List, [], ◌∷◌}
-use mathlib.Core.Option.{Option, none, some}
+use mathlib.Core.Option.{none, some}
+use mathlib.Core.Option as maybe
+use Rattle.std.specs.Prelude.{Option, None, Some}
 use mathlib.Core.Path.{◌≡◌, refl, sym, ap, ◌∙◌}
 use native.Mathlib.Omega.{arith}
 use lib.ListN.{length, get_or, drop, drop_of_length-le}
@@ -11,8 +13,6 @@ use borrow.Author.Tests.{eq-eqb, ne_eqb}
 use Rattle.catalogue.specs.Script.{next_line, split, natural, read_schedule}
 use Rattle.script.specs.Lines.{line_in, line_at, words_at}
 use Rattle.script.specs.Turns.{as_after, schedule_at, scheduled, turns_at}
-use Rattle.script.specs.declared.turns.After.{After}
-use Rattle.script.specs.declared.turns.After.TheVariants.{Bad, At}
 use Rattle.script.proofs.Tools.{all_pair}
 use Rattle.script.proofs.LineLaws.{words_none, line_alike, before}
 use Rattle.script.proofs.ScheduleWords.{tested, scheduled_never, scheduled_end}
@@ -26,16 +26,16 @@ module _ (workers turns : ℕ) (text : List ℕ) (at : ℕ) where
   pub schedule_by_words : 1 ≤ turns → line_at (read_schedule workers turns) text at ≡ words_at (scheduled workers turns) text at
   schedule_by_words h = line_alike (read_schedule workers turns) (λ l. scheduled workers turns (split l)) (words_or_none workers turns h) at (next_line (drop at text))
 
-  pub schedule_turns : (r : After) → r ≡ turns_at workers turns text at → 1 ≤ turns → r ≡ schedule_at workers turns text at
+  pub schedule_turns : (r : Option ℕ) → r ≡ turns_at workers turns text at → 1 ≤ turns → r ≡ schedule_at workers turns text at
   unfolding schedule_at turns_at
   schedule_turns r e h = e ∙ ap as_after (sym (schedule_by_words h))
 
-  pub schedule_none : length text ≤ at → Bad ≡ schedule_at workers turns text at
+  pub schedule_none : length text ≤ at → None ≡ schedule_at workers turns text at
   unfolding schedule_at next_line
   schedule_none h = rw (drop_of_length-le text {i = at} h)
 
   module _ (h : at < length text) (z : turns < 1) where
-    pub schedule_end : get_or text at 0 ≡ 10 → At (at + 1) ≡ schedule_at workers turns text at
+    pub schedule_end : get_or text at 0 ≡ 10 → Some (at + 1) ≡ schedule_at workers turns text at
     unfolding schedule_at next_line
     schedule_end e =
         let t : turns ≡ 0 = omega arith in
@@ -46,12 +46,12 @@ module _ (workers turns : ℕ) (text : List ℕ) (at : ℕ) where
     unfolding next_line
     alike n = rw (drop-cons text at 0 h, next_line, ne_eqb (get_or text at 0) 10 n) (through (next_line (drop (suc at) text)))
       where
-        through : (o : Option (List ℕ × List ℕ))
+        through : (o : maybe.Option (List ℕ × List ℕ))
             → line_in (read_schedule workers 0) at (before (get_or text at 0) o) ≡ line_in (λ l. scheduled workers 0 (split l)) at (before (get_or text at 0) o)
         through none = refl
         through (some r) = refl
 
-    pub schedule_more : (get_or text at 0 ≡ 10 → ⊥) → Bad ≡ schedule_at workers turns text at
+    pub schedule_more : (get_or text at 0 ≡ 10 → ⊥) → None ≡ schedule_at workers turns text at
     unfolding schedule_at
     schedule_more n =
         let t : turns ≡ 0 = omega arith in

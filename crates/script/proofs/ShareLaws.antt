@@ -11,21 +11,23 @@ use lib.ListN.{length, get_or, set, take, drop, length-set, drop_of_length-le}
 use lib.Seq.{length-take-le, take-suc, take-set-le, get_or-set_same, drop-cons, get_or-take}
 use Rattle.catalogue.specs.Script.{Read, bad, good, and_then, sum}
 use Rattle.catalogue.specs.declared.workers.Request.{Request}
+use Rattle.std.specs.Prelude.{Option, Result, None, Some, Ok, Err}
+use Rattle.digits.specs.Digits.{at_some}
+use Rattle.digits.specs.declared.numbers.Parsed.{Parsed}
 use Rattle.script.specs.Lines.{request_at}
-use Rattle.script.specs.Shares.{at_request, at_skipped, skip_at, starts_at, onto, Sharing}
-use Rattle.script.specs.declared.requests.Line.{Line}
-use Rattle.script.specs.declared.requests.Line.TheVariants as line
-use Rattle.script.specs.declared.shares.Skipped.{Skipped}
-use Rattle.script.specs.declared.shares.Skipped.TheVariants.{Bad, At}
+use Rattle.script.specs.Shares.{at_skipped, skip_at, share, starts_at, onto, starts_told, Sharing}
+use Rattle.script.specs.declared.bad_line.BadLine.{BadLine}
+use Rattle.script.specs.declared.shares.Share.{Share}
+use Rattle.script.specs.declared.shares.Shares.{Shares}
 use Rattle.script.proofs.HeaderParts.{sum_pair}
 
 -- ---- some lines skipped
 
-pub skip_none : (text : List ℕ) (n at : ℕ) → skip_at text 0 n at ≡ At at
+pub skip_none : (text : List ℕ) (n at : ℕ) → skip_at text 0 n at ≡ Ok at
 unfolding skip_at
 skip_none text n at = refl
 
-pub skip_one : (text : List ℕ) (count n at : ℕ) → skip_at text (suc count) n at ≡ at_request (request_at text at) (Bad n) (λ q next. skip_at text count (suc n) next)
+pub skip_one : (text : List ℕ) (count n at : ℕ) → skip_at text (suc count) n at ≡ at_some (request_at text at) (Err (record { line = n })) (λ r. skip_at text count (suc n) r.next)
 unfolding skip_at
 skip_one text count n at = refl
 
@@ -42,23 +44,23 @@ module _ (text : List ℕ) (at count n : ℕ) where
       record { same = rw (a, b); within = omega arith }
 
   module _ (place i : ℕ) (k : Skipping text at count n place i) where
-    pub skipping_end : count ≤ i → At place ≡ skip_at text count n at
+    pub skipping_end : count ≤ i → Ok place ≡ skip_at text count n at
     skipping_end h = let a : count - i ≡ 0 = omega arith in sym (k.same ∙ rw (a, skip_none))
 
-    module _ (h : i < count) (r : Line) (e : r ≡ request_at text place) where
-      opened : skip_at text count n at ≡ at_request r (Bad (n + i)) (λ q next. skip_at text (count - (i + 1)) (n + (i + 1)) next)
+    module _ (h : i < count) (r : Option (Parsed Request)) (e : r ≡ request_at text place) where
+      opened : skip_at text count n at ≡ at_some r (Err (record { line = n + i })) (λ q. skip_at text (count - (i + 1)) (n + (i + 1)) q.next)
       opened =
           let a : count - i ≡ suc (count - (i + 1)) = omega arith in
           let b : suc (n + i) ≡ n + (i + 1) = omega arith in
           k.same ∙ rw (a, skip_one text (count - (i + 1)) (n + i) place, b, sym e)
 
-      pub skipping_bad : r ≡ line.Bad → Bad (n + i) ≡ skip_at text count n at
+      pub skipping_bad : r ≡ None → Err (record { line = n + i }) ≡ skip_at text count n at
       skipping_bad q = sym (opened ∙ rw q)
 
-      pub skipping_more : (request : Request) (next : ℕ) → r ≡ line.Read request next → Skipping text at count n next (i + 1)
-      skipping_more request next q = record { same = opened ∙ rw q; within = omega arith }
+      pub skipping_more : (p : Parsed Request) → r ≡ Some p → Skipping text at count n p.next (i + 1)
+      skipping_more p q = record { same = opened ∙ rw q; within = omega arith }
 
-pub ruleset skips = (skipping_none, skipping_end, skipping_bad, skipping_more)
+pub ruleset skips = (refl, tt, skipping_none, skipping_end, skipping_bad, skipping_more)
 
 -- ---- the lines of each worker
 
@@ -67,65 +69,81 @@ unfolding starts_at
 starts_none text n at = refl
 
 pub starts_pair : (text : List ℕ) (count : ℕ) (counts : List ℕ) (n at : ℕ)
-    → starts_at text (count ∷ counts) n at ≡ at_skipped (skip_at text count n at) bad (λ next. and_then (starts_at text counts (n + count) next) (λ r. good (at ∷ r.0, r.1)))
+    → starts_at text (count ∷ counts) n at ≡ at_skipped (skip_at text count n at) bad (λ next. and_then (starts_at text counts (n + count) next) (λ r. good (share at count ∷ r.0, r.1)))
 unfolding starts_at
 starts_pair text count counts n at = refl
 
-onto_pair : (front : List ℕ) (at : ℕ) (o : Read (List ℕ × ℕ)) → onto (front ++ (at ∷ [])) o ≡ onto front (and_then o (λ r. good (at ∷ r.0, r.1)))
-onto_pair front at (bad n) = refl
-onto_pair front at (good r) = rw (append_assoc front (at ∷ []) r.0)
+onto_none : (o : Read (List Share × ℕ)) → onto [] o ≡ o
+onto_none (bad n) = refl
+onto_none (good r) = refl
 
-module _ (text : List ℕ) (workers w n at : ℕ) (counts starts : List ℕ) (k : Sharing workers w n counts starts) where
+onto_pair : (front : List Share) (s : Share) (o : Read (List Share × ℕ)) → onto (front ++ (s ∷ [])) o ≡ onto front (and_then o (λ r. good (s ∷ r.0, r.1)))
+onto_pair front s (bad n) = refl
+onto_pair front s (good r) = rw (append_assoc front (s ∷ []) r.0)
+
+-- the lines of the workers below w were read, and what is asked of the others is what is left
+pub record Shared (text : List ℕ) (workers line at : ℕ) (counts : List ℕ) (w n place : ℕ) (found : List Share) : Type 0 where
+  pub sharing : Sharing workers w n counts
+  pub found_long : length found ≡ 8
+  pub same : onto (take w found) (starts_at text (drop w (take workers counts)) n place) ≡ starts_at text (take workers counts) line at
+
+module _ (text : List ℕ) (workers line at : ℕ) (counts : List ℕ) where
   abbrev own : List ℕ
   own = take workers counts
 
-  abbrev asked : Read (List ℕ × ℕ)
-  asked = onto (take w starts) (starts_at text (drop w own) n at)
+  pub shared_none : (found : List Share) → Sharing workers 0 line counts → length found ≡ 8 → Shared text workers line at counts 0 line at found
+  shared_none found k l = record { sharing = k; found_long = l; same = onto_none (starts_at text own line at) }
 
-  own_long : length own ≡ workers
-  own_long = length-take-le workers counts (omega (arith, k.few, k.counts_long))
+  module _ (w n place : ℕ) (found : List Share) (k : Shared text workers line at counts w n place found) where
+    own_long : length own ≡ workers
+    own_long = length-take-le workers counts (omega (arith, k.sharing.few, k.sharing.counts_long))
 
-  pub shares_end : workers ≤ w → good (take workers starts, at) ≡ asked
-  shares_end h =
-      let s : w ≡ workers = omega (arith, k.within) in
-      rw (s, drop_of_length-le own {i = workers} (omega (arith, own_long)), starts_none, append-nil)
+    pub shares_end : workers ≤ w → good (take workers found, place) ≡ starts_at text own line at
+    shares_end h =
+        let s : w ≡ workers = omega (arith, k.sharing.within) in
+        rw (s, drop_of_length-le own {i = workers} (omega (arith, own_long)), starts_none, append-nil) at k.same
 
-  module _ (h : w < workers) where
-    abbrev count : ℕ
-    count = get_or counts w 0
+    module _ (h : w < workers) where
+      abbrev count : ℕ
+      count = get_or counts w 0
 
-    ahead : drop w own ≡ count ∷ drop (w + 1) own
-    ahead = rw (add-one) (drop-cons own w 0 (omega (arith, own_long)) ∙ ap (λ c. c ∷ drop (suc w) own) (get_or-take workers counts w 0 h))
+      abbrev here : Share
+      here = share place count
 
-    pub count_lines : n + count ≤ 1026
-    count_lines = omega (arith, k.lines, ap sum ahead, sum_pair count (drop (w + 1) own))
+      ahead : drop w own ≡ count ∷ drop (w + 1) own
+      ahead = rw (add-one) (drop-cons own w 0 (omega (arith, own_long)) ∙ ap (λ c. c ∷ drop (suc w) own) (get_or-take workers counts w 0 h))
 
-    pub lines_fit : Fits w32 (n + count)
-    lines_fit = record { fits = omega (arith, count_lines) }
+      pub count_lines : n + count ≤ 1026
+      count_lines = omega (arith, k.sharing.lines, ap sum ahead, sum_pair count (drop (w + 1) own))
 
-    pub sharing_on : Sharing workers (w + 1) (n + count) counts (set starts w at)
-    sharing_on = record {
-      few = k.few;
-      within = omega arith;
-      lines = omega (arith, k.lines, ap sum ahead, sum_pair count (drop (w + 1) own));
-      counts_long = k.counts_long;
-      starts_long = length-set starts w at ∙ k.starts_long;
-    }
+      pub lines_fit : Fits w32 (n + count)
+      lines_fit = record { fits = omega (arith, count_lines) }
 
-    module _ (r : Skipped) (e : r ≡ skip_at text count n at) where
-      opened_shares : asked ≡ onto (take w starts) (at_skipped r bad (λ next. and_then (starts_at text (drop (w + 1) own) (n + count) next) (λ r. good (at ∷ r.0, r.1))))
-      opened_shares = rw (ahead, starts_pair text count (drop (w + 1) own) n at, sym e)
+      module _ (r : Result ℕ BadLine) (e : r ≡ skip_at text count n place) where
+        opened_shares : onto (take w found) (at_skipped r bad (λ next. and_then (starts_at text (drop (w + 1) own) (n + count) next) (λ s. good (here ∷ s.0, s.1))))
+            ≡ starts_at text own line at
+        opened_shares = rw (ahead, starts_pair text count (drop (w + 1) own) n place, sym e) at k.same
 
-      pub shares_bad : (m : ℕ) → r ≡ Bad m → bad m ≡ asked
-      shares_bad m q = sym (opened_shares ∙ rw q)
+        pub shares_bad : (b : BadLine) (o : Result Shares BadLine) → r ≡ Err b → o ≡ Err b → starts_told workers o ≡ starts_at text own line at
+        shares_bad b o q d = rw d (rw q at opened_shares)
 
-      pub shares_on : (next : ℕ) (o : Read (List ℕ × ℕ)) → r ≡ At next
-          → o ≡ onto (take (w + 1) (set starts w at)) (starts_at text (drop (w + 1) own) (n + count) next) → o ≡ asked
-      shares_on next o q d =
-          let within : w < length starts = omega (arith, k.few, k.starts_long) in
-          let front : take (w + 1) (set starts w at) ≡ take w starts ++ (at ∷ []) =
-          rw (add-one, take-suc (set starts w at) w 0 (rw (length-set starts w at) within), take-set-le w starts w at (omega arith), get_or-set_same starts w at 0 within) in
-          d ∙ ap (λ l. onto l (starts_at text (drop (w + 1) own) (n + count) next)) front
-          ∙ onto_pair (take w starts) at (starts_at text (drop (w + 1) own) (n + count) next) ∙ sym (opened_shares ∙ rw q)
+        pub shares_on : (next : ℕ) → r ≡ Ok next → Shared text workers line at counts (w + 1) (n + count) next (set found w here)
+        shares_on next q =
+            let within : w < length found = omega (arith, k.sharing.few, k.found_long) in
+            let front : take (w + 1) (set found w here) ≡ take w found ++ (here ∷ []) =
+            rw (add-one, take-suc (set found w here) w (share 0 0) (rw (length-set found w here) within), take-set-le w found w here (omega arith), get_or-set_same found w here (share 0 0) within) in
+            record {
+              sharing = record {
+                few = k.sharing.few;
+                within = omega arith;
+                lines = omega (arith, k.sharing.lines, ap sum ahead, sum_pair count (drop (w + 1) own));
+                counts_long = k.sharing.counts_long;
+              };
+              found_long = length-set found w here ∙ k.found_long;
+              same =
+                  ap (λ l. onto l (starts_at text (drop (w + 1) own) (n + count) next)) front
+                  ∙ onto_pair (take w found) here (starts_at text (drop (w + 1) own) (n + count) next)
+                  ∙ (rw q at opened_shares);
+            }
 
-pub ruleset share_cases = (shares_end, count_lines, lines_fit, sharing_on, shares_bad, shares_on)
+pub ruleset share_cases = (refl, tt, shared_none, shares_end, count_lines, lines_fit, shares_bad, shares_on)

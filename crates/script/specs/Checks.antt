@@ -1,18 +1,18 @@
 -- What a check of a whole text returns, and how the positions that it gives belong to the script that the text is.
-use Rattle.std.specs.Prelude.{ℕ, zero, suc, ◌+◌, ◌≤◌, true, List, [], ◌∷◌, ◌≡◌, length, get_or, take, replicate, ltb}
+use Rattle.std.specs.Prelude.{ℕ, zero, suc, ◌+◌, ◌≤◌, true, List, [], ◌∷◌, map, ◌≡◌, length, get_or, take, ltb, Result, Ok, Err}
 use Rattle.catalogue.specs.Tests.{pick, every}
 use Rattle.catalogue.specs.Numbers.{most_workers}
 use Rattle.catalogue.specs.Script.{Script, bad, good, sum, read_script, most_requests, most_turns}
 use Rattle.catalogue.specs.Run.{shares}
 use Rattle.catalogue.specs.declared.workers.Request.{Request}
 use Rattle.script.specs.Lines.{request_at}
-use Rattle.script.specs.Shares.{at_request}
+use Rattle.digits.specs.Digits.{at_some}
+use Rattle.script.specs.Shares.{share}
 use Rattle.script.specs.Turns.{schedule_at, turn_at}
-use Rattle.script.specs.declared.turns.After.{After}
-use Rattle.script.specs.declared.turns.After.TheVariants as after
+use Rattle.script.specs.declared.bad_line.BadLine.{BadLine}
 use Rattle.script.specs.declared.headers.Heading.{Heading}
-use Rattle.script.specs.declared.checks.Verdict.{Verdict}
-use Rattle.script.specs.declared.checks.Verdict.TheVariants.{Good, Bad}
+use Rattle.script.specs.declared.shares.Share.{Share}
+use Rattle.script.specs.declared.shares.Shares.{Shares}
 use Rattle.script.specs.declared.checks.Checked.{Checked}
 
 -- ---- what is read from positions
@@ -20,13 +20,19 @@ use Rattle.script.specs.declared.checks.Checked.{Checked}
 -- so many requests, one after the other; a bad line ends them
 unfoldable pub requests_at : List ℕ → ℕ → ℕ → List Request
 requests_at text zero at = []
-requests_at text (suc count) at = at_request (request_at text at) [] (λ q next. q ∷ requests_at text count next)
+requests_at text (suc count) at = at_some (request_at text at) [] (λ r. r.value ∷ requests_at text count r.next)
 
--- those of each worker, from where they begin
-unfoldable pub shares_at : List ℕ → List ℕ → List ℕ → List (List Request)
-shares_at text [] starts = []
-shares_at text (count ∷ counts) [] = []
-shares_at text (count ∷ counts) (at ∷ starts) = requests_at text count at ∷ shares_at text counts starts
+-- those of each worker
+unfoldable pub shares_at : List ℕ → List Share → List (List Request)
+shares_at text [] = []
+shares_at text (s ∷ ss) = requests_at text s.count s.start ∷ shares_at text ss
+
+abbrev pub counts_of : List Share → List ℕ
+counts_of ss = map (λ s. s.count) ss
+
+-- a worker's share, or none
+abbrev pub share_of : List Share → ℕ → Share
+share_of ss w = get_or ss w (share 0 0)
 
 -- so many turns
 unfoldable pub turns_from : List ℕ → ℕ → ℕ → List ℕ
@@ -37,37 +43,33 @@ turns_from text (suc turns) at = (turn_at text at).worker ∷ turns_from text tu
 
 abbrev pub script_in : List ℕ → Checked → Script
 script_in text r = record {
-  counts = take r.workers r.counts;
-  requests = requests_at text (sum (take r.workers r.counts)) (get_or r.starts 0 0);
+  counts = counts_of (take r.workers r.shares);
+  requests = requests_at text (sum (counts_of (take r.workers r.shares))) (share_of r.shares 0).start;
   schedule = turns_from text r.turns r.schedule;
 }
 
 pub record IsScript (text : List ℕ) (r : Checked) : Type 0 where
   pub reads : read_script text ≡ good (script_in text r)
-  pub shared : shares (script_in text r).counts (script_in text r).requests ≡ shares_at text (take r.workers r.counts) (take r.workers r.starts)
+  pub shared : shares (script_in text r).counts (script_in text r).requests ≡ shares_at text (take r.workers r.shares)
   pub one : 1 ≤ r.workers
   pub few : r.workers ≤ most_workers
-  pub most : sum (take r.workers r.counts) ≤ most_requests
+  pub most : sum (script_in text r).counts ≤ most_requests
   pub timed : r.turns ≤ most_turns
   pub manned : every (λ w. ltb w r.workers) (script_in text r).schedule ≡ true
 
 -- a bad line is the script's first one, and without one the text is a script
-abbrev pub Answers : List ℕ → Verdict → Checked → Type 0
-Answers text Good r = IsScript text r
-Answers text (Bad n) r = read_script text ≡ bad n
+abbrev pub Answers : List ℕ → Result Checked BadLine → Type 0
+Answers text (Ok r) = IsScript text r
+Answers text (Err b) = read_script text ≡ bad b.line
 
 -- ---- its last part
 
-abbrev pub no_script : ℕ → Checked
-no_script n = record { verdict = Bad n; workers = 0; counts = replicate 8 0; starts = replicate 8 0; schedule = 0; turns = 0 }
-
-abbrev pub at_after : {A : Type 0} → After → A → (ℕ → A) → A
-at_after after.Bad other f = other
-at_after (after.At next) other f = f next
+abbrev pub no_script : ℕ → Result Checked BadLine
+no_script n = Err (record { line = n })
 
 -- the schedule, and nothing after it
-unfoldable pub ending_at : List ℕ → Heading → List ℕ → ℕ → Checked
-ending_at text h starts at =
-    at_after (schedule_at h.workers h.turns text at) (no_script (2 + h.total)) (λ next.
+unfoldable pub ending_at : List ℕ → Heading → Shares → Result Checked BadLine
+ending_at text h s =
+    at_some (schedule_at h.workers h.turns text s.next) (no_script (2 + h.total)) (λ next.
     pick (ltb next (length text)) (no_script (3 + h.total))
-    (record { verdict = Good; workers = h.workers; counts = h.counts; starts = starts; schedule = at; turns = h.turns }))
+    (Ok (record { workers = h.workers; shares = s.shares; schedule = s.next; turns = h.turns })))

@@ -1,14 +1,12 @@
 // The header line: the number of workers, a count of requests for each, and the length of the schedule.
-ghost use Rattle.std.specs.Prelude.{◌≡◌, take};
-ghost use Rattle.std.proofs.Math.Option.{none, some};
-ghost use Rattle.script.specs.Headers.{Counted, told, header_parts, header_line, counts_at};
+ghost use Rattle.std.specs.Prelude.{◌≡◌, ◌≤◌, []};
+ghost use Rattle.script.specs.Headers.{told, header_line, counts_at};
 
-use crate::numbers::{Number, read_number};
+use crate::numbers::read_number;
 
-// Whether the line is a header, and what it says. The counts from the number of workers on belong to no worker.
+// What a header says. The counts from the number of workers on belong to no worker.
 #[derive(Clone, Copy)]
 pub struct Heading {
-    pub good: bool,
     pub workers: u32,
     pub total: u32,
     pub counts: [u32; 8],
@@ -16,84 +14,57 @@ pub struct Heading {
     pub next: usize,
 }
 
-fn no_header() -> Heading
-    ensures { told result ≡ none }
-{
-    Heading {
-        good: false,
-        workers: 0,
-        total: 0,
-        counts: [0; 8],
-        turns: 0,
-        next: 0,
-    }
-}
-
-fn good_header(workers: u32, total: u32, counts: [u32; 8], turns: u32, next: usize) -> Heading
-    ensures { told result ≡ some (header_parts workers total counts turns next) }
-{
-    Heading {
-        good: true,
-        workers,
-        total,
-        counts,
-        turns,
-        next,
-    }
-}
-
-// The counts from the i-th on, after others that sum up to `total`.
 // The number after all counts is the length of the schedule.
-fn read_counts(
-    text: &[u8],
-    at: usize,
-    workers: u32,
-    i: u32,
-    total: u32,
-    counts: [u32; 8],
-) -> Heading
-    requires { Counted workers i total counts }
-    ensures { told result ≡ counts_at workers (take i counts) text.now at }
+#[tactic(auto, using(crate::proofs::CountLaws::counts_cases))]
+fn read_counts(text: &[u8], at: usize, workers: u32) -> Option<Heading>
+    requires at_least_one { 1 ≤ workers }
+    requires workers_bound { workers ≤ 8 }
+    ensures { told result ≡ counts_at workers [] text.now at }
 {
-    let bad = no_header();
-    let Number::At { value, next, last } = read_number(text, at) else {
-        return bad;
-    };
-    if i < workers {
-        if last {
-            return bad;
+    let mut counts = [0; 8];
+    let mut total = 0;
+    let mut place = at;
+    for i in 0..workers {
+        let n = read_number(text, place)?;
+        if n.last {
+            return None;
         }
-        if 1024 - total < value {
-            return bad;
+        if 1024 - total < n.value {
+            return None;
         }
-        let mut more = counts;
-        more[i as usize] = value;
-        return read_counts(text, next, workers, i + 1, total + value, more);
+        counts[i as usize] = n.value;
+        total += n.value;
+        place = n.next;
     }
-    if last {
-        if 8192 < value {
-            return bad;
+    let turns = read_number(text, place)?;
+    if turns.last {
+        if 8192 < turns.value {
+            return None;
         }
-        return good_header(workers, total, counts, value, next);
+        return Some(Heading {
+            workers,
+            total,
+            counts,
+            turns: turns.value,
+            next: turns.next,
+        });
     }
-    bad
+    None
 }
 
-pub fn read_header(text: &[u8]) -> Heading
+#[tactic(auto, using(crate::proofs::HeaderLine::header_cases))]
+pub fn read_header(text: &[u8]) -> Option<Heading>
     ensures { told result ≡ header_line text.now }
 {
-    let bad = no_header();
-    let Number::At { value, next, last } = read_number(text, 0) else {
-        return bad;
-    };
-    if last {
-        return bad;
+    let workers = read_number(text, 0)?;
+    if workers.last {
+        return None;
     }
-    if value < 1 {
-        return bad;
+    if workers.value < 1 {
+        return None;
     }
-    if 8 < value {
-        return bad;
+    if 8 < workers.value {
+        return None;
     }
-    read_counts(text, next, value, 0, 0, [0; 8])
+    read_counts(text, workers.next, workers.value)
 }

@@ -3,31 +3,17 @@
 ghost use Rattle.std.specs.Prelude.{◌≡◌};
 ghost use Rattle.script.specs.Words.{key_at};
 
-use crate::numbers::{End, end_at};
-use digits::signed::{Signed, read_signed};
+use crate::numbers::{Item, as_item};
+use digits::signed::read_signed;
 
-// As for a number.
-#[derive(Clone, Copy)]
-pub enum Key {
-    Bad,
-    At { key: i32, next: usize, last: bool },
-}
-
-pub fn read_key(text: &[u8], at: usize) -> Key
+#[tactic(auto, using(crate::proofs::NumberLaws::key_cases))]
+pub fn read_key(text: &[u8], at: usize) -> Option<Item<i32>>
     ensures { result ≡ key_at text.now at }
 {
-    let Signed::At {
-        value: key,
-        next: end,
-    } = read_signed(text, at)
-    else {
-        return Key::Bad;
-    };
-    let End::At { next, last } = end_at(text, end) else {
-        return Key::Bad;
-    };
-    if key < 2147483647 {
-        return Key::At { key, next, last };
+    let p = read_signed(text, at)?;
+    let key = as_item(text, p)?;
+    if key.value < 2147483647 {
+        return Some(key);
     }
-    Key::Bad
+    None
 }

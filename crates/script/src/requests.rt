@@ -2,72 +2,58 @@
 ghost use Rattle.std.specs.Prelude.{◌≡◌};
 ghost use Rattle.script.specs.Lines.{request_at, keys_at, line_of};
 
-use crate::keys::{Key, read_key};
-use crate::numbers::{Number, read_number};
+use crate::keys::read_key;
+use crate::numbers::read_number;
 use catalogue::workers::{Pair, Request};
+use digits::numbers::Parsed;
 
-// The request of a line, and where the next line begins.
-#[derive(Clone, Copy)]
-pub enum Line {
-    Bad,
-    Read { request: Request, next: usize },
-}
-
-fn line_of(code: u32, k: i32, l: i32, next: usize) -> Line
+fn line_of(code: u32, k: i32, l: i32, next: usize) -> Option<Parsed<Request>>
     ensures { result ≡ line_of code k l next }
 {
-    Line::Read {
-        request: Request {
+    Some(Parsed {
+        value: Request {
             code,
             pair: Pair { k, l },
         },
         next,
-    }
+    })
 }
 
 // One key or two, by the code.
-fn read_keys(text: &[u8], at: usize, code: u32) -> Line
+#[tactic(auto, using(crate::proofs::RequestLaws::request_cases))]
+fn read_keys(text: &[u8], at: usize, code: u32) -> Option<Parsed<Request>>
     ensures { result ≡ keys_at code text.now at }
 {
-    let Key::At {
-        key: k,
-        next: after,
-        last: lone,
-    } = read_key(text, at)
-    else {
-        return Line::Bad;
-    };
-    if lone {
+    let k = read_key(text, at)?;
+    if k.last {
         if code <= 3 {
-            return line_of(code, k, 0, after);
+            return line_of(code, k.value, 0, k.next);
         }
-        return Line::Bad;
+        return None;
     }
-    let Key::At { key: l, next, last } = read_key(text, after) else {
-        return Line::Bad;
-    };
-    if last {
+    let l = read_key(text, k.next)?;
+    if l.last {
         if code <= 3 {
-            return Line::Bad;
+            return None;
         }
-        return line_of(code, k, l, next);
+        return line_of(code, k.value, l.value, l.next);
     }
-    Line::Bad
+    None
 }
 
-pub fn read_request(text: &[u8], at: usize) -> Line
+// The request of a line, and where the next line begins.
+#[tactic(auto, using(crate::proofs::RequestLaws::request_cases))]
+pub fn read_request(text: &[u8], at: usize) -> Option<Parsed<Request>>
     ensures { result ≡ request_at text.now at }
 {
-    let Number::At { value, next, last } = read_number(text, at) else {
-        return Line::Bad;
-    };
-    if last {
-        return Line::Bad;
+    let code = read_number(text, at)?;
+    if code.last {
+        return None;
     }
-    if 1 <= value {
-        if value <= 6 {
-            return read_keys(text, next, value);
+    if 1 <= code.value {
+        if code.value <= 6 {
+            return read_keys(text, code.next, code.value);
         }
     }
-    Line::Bad
+    None
 }

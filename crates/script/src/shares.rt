@@ -1,69 +1,66 @@
 // The request lines, checked in the order in which they stand, and where each worker's begin.
-ghost use Rattle.std.specs.Prelude.{◌≡◌, ◌+◌, ◌≤◌, take, drop};
-ghost use Rattle.script.specs.Shares.{Sharing, skip_at, starts_at, starts_told, onto};
+ghost use Rattle.std.specs.Prelude.{◌≡◌, ◌+◌, ◌≤◌, take};
+ghost use Rattle.script.specs.Shares.{Sharing, skip_at, starts_at, starts_told};
 
-use crate::requests::{Line, read_request};
+use crate::bad_line::BadLine;
+use crate::requests::read_request;
 
-// The number of the first bad line, or where the text goes on after all.
+// Request lines of one worker: where they begin, and how many they are.
 #[derive(Clone, Copy)]
-pub enum Skipped {
-    Bad { line: u32 },
-    At { next: usize },
+pub struct Share {
+    pub start: usize,
+    pub count: u32,
 }
 
-// The same, and where the lines of each worker begin.
+// Where the text goes on after all, and the lines of each worker.
 #[derive(Clone, Copy)]
 pub struct Shares {
-    pub skipped: Skipped,
-    pub starts: [usize; 8],
+    pub next: usize,
+    pub shares: [Share; 8],
 }
 
 // So many request lines, of which the first has the number `line`.
-fn skip(text: &[u8], at: usize, count: u32, line: u32) -> Skipped
+#[tactic(auto, using(crate::proofs::ShareLaws::skips))]
+fn skip(text: &[u8], at: usize, count: u32, line: u32) -> Result<usize, BadLine>
     requires { line + count ≤ 1026 }
     ensures { result ≡ skip_at text.now count line at }
 {
     let mut place = at;
-    let mut i = 0;
-    while i < count {
-        let Line::Read { request: _, next } = read_request(text, place) else {
-            return Skipped::Bad { line: line + i };
+    for i in 0..count {
+        let Some(request) = read_request(text, place) else {
+            return Err(BadLine { line: line + i });
         };
-        place = next;
-        i += 1;
+        place = request.next;
     }
-    Skipped::At { next: place }
+    Ok(place)
 }
 
-// The lines of the workers from w on.
+// The lines of all workers, of which the first has the number `line`.
+#[tactic(auto, using(crate::proofs::ShareLaws::share_cases))]
 pub fn read_shares(
     text: &[u8],
     at: usize,
     workers: u32,
-    w: u32,
     line: u32,
     counts: [u32; 8],
-    starts: [usize; 8],
-) -> Shares
-    requires { Sharing workers w line counts starts }
-    ensures { starts_told workers result ≡ onto (take w starts) (starts_at text.now (drop w (take workers counts)) line at) }
+) -> Result<Shares, BadLine>
+    requires { Sharing workers 0 line counts }
+    ensures { starts_told workers result ≡ starts_at text.now (take workers counts) line at }
 {
-    if workers <= w {
-        return Shares {
-            skipped: Skipped::At { next: at },
-            starts,
+    let mut shares = [Share { start: 0, count: 0 }; 8];
+    let mut place = at;
+    let mut first = line;
+    for w in 0..workers {
+        let count = counts[w as usize];
+        shares[w as usize] = Share {
+            start: place,
+            count,
         };
+        place = skip(text, place, count, first)?;
+        first += count;
     }
-    let count = counts[w as usize];
-    match skip(text, at, count, line) {
-        Skipped::Bad { line: first } => Shares {
-            skipped: Skipped::Bad { line: first },
-            starts,
-        },
-        Skipped::At { next } => {
-            let mut more = starts;
-            more[w as usize] = at;
-            read_shares(text, next, workers, w + 1, line + count, counts, more)
-        }
-    }
+    Ok(Shares {
+        next: place,
+        shares,
+    })
 }

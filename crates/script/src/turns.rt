@@ -2,14 +2,7 @@
 ghost use Rattle.std.specs.Prelude.{◌≡◌, ◌≤◌};
 ghost use Rattle.script.specs.Turns.{turn_at, turns_at, schedule_at};
 
-use crate::numbers::{Number, read_number};
-
-// Where the text goes on after what was read.
-#[derive(Clone, Copy)]
-pub enum After {
-    Bad,
-    At { next: usize },
-}
+use crate::numbers::read_number;
 
 // The worker whose turn it is, and where the next turn stands.
 #[derive(Clone, Copy)]
@@ -19,51 +12,45 @@ pub struct Turn {
 }
 
 // In a schedule that was checked; elsewhere it may return worker 0.
+#[tactic(auto, using(crate::proofs::Taken::taken), unfolding(crate::specs::Turns::turn_at))]
 pub fn read_turn(text: &[u8], at: usize) -> Turn
     ensures { result ≡ turn_at text.now at }
 {
-    let Number::At {
-        value,
-        next,
-        last: _,
-    } = read_number(text, at)
-    else {
+    let Some(n) = read_number(text, at) else {
         return Turn { worker: 0, next: 0 };
     };
     Turn {
-        worker: value,
-        next,
+        worker: n.value,
+        next: n.next,
     }
 }
 
 // So many turns, of which the last one ends the line.
-fn check_turns(text: &[u8], at: usize, workers: u32, turns: u32) -> After
+#[tactic(auto, using(crate::proofs::TurnLaws::turn_steps))]
+fn check_turns(text: &[u8], at: usize, workers: u32, turns: u32) -> Option<usize>
     requires { workers ≤ 8 }
     ensures { result ≡ turns_at workers turns text.now at }
 {
     let mut place = at;
-    let mut left = turns;
-    while 0 < left {
-        let Number::At { value, next, last } = read_number(text, place) else {
-            return After::Bad;
-        };
-        if workers <= value {
-            return After::Bad;
+    for i in 0..turns {
+        let n = read_number(text, place)?;
+        if workers <= n.value {
+            return None;
         }
-        if last {
-            if left == 1 {
-                return After::At { next };
+        if n.last {
+            if i + 1 == turns {
+                return Some(n.next);
             }
-            return After::Bad;
+            return None;
         }
-        place = next;
-        left -= 1;
+        place = n.next;
     }
-    After::Bad
+    None
 }
 
-// A schedule of no turns is an empty line.
-pub fn check_schedule(text: &[u8], at: usize, workers: u32, turns: u32) -> After
+// Where the text goes on after the schedule. A schedule of no turns is an empty line.
+#[tactic(auto, using(crate::proofs::ScheduleLine::schedule_cases))]
+pub fn check_schedule(text: &[u8], at: usize, workers: u32, turns: u32) -> Option<usize>
     requires { workers ≤ 8 }
     ensures { result ≡ schedule_at workers turns text.now at }
 {
@@ -71,10 +58,10 @@ pub fn check_schedule(text: &[u8], at: usize, workers: u32, turns: u32) -> After
         return check_turns(text, at, workers, turns);
     }
     if text.len() <= at {
-        return After::Bad;
+        return None;
     }
     if text[at] == 10 {
-        return After::At { next: at + 1 };
+        return Some(at + 1);
     }
-    After::Bad
+    None
 }

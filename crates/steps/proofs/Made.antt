@@ -9,7 +9,7 @@ use lib.IntN.{ℤ}
 use lib.Signed.{lt_z}
 use lib.Dec.{eqb, leb, ltb}
 use Rattle.catalogue.specs.Tests.{pick, eq_z}
-use Rattle.catalogue.specs.Numbers.{room, head, edge_pool}
+use Rattle.catalogue.specs.Numbers.{room, head, edge_pool, some_link}
 use Rattle.catalogue.specs.Catalogue.{Catalogue, vertex_link, first_link, edge_key, edge_link, edge_target, at_mark}
 use Rattle.catalogue.specs.Workers.{has, request_of, ahead}
 use Rattle.catalogue.specs.Steps.Places.{key_refused}
@@ -20,8 +20,8 @@ use Rattle.catalogue.specs.Steps.Contains.{settle_contains_edge, step_contains_e
 use Rattle.catalogue.specs.Steps.Edges.{link_behind, see_key, see_edge, see_behind, look_at_edge, new_edge, settle_add_edge, settle_remove_edge, settle_edge, restart, decide_edge, step_edge}
 use Rattle.catalogue.specs.Steps.Trial.{ends_fit, see_trial, end_trial, cross, pass_edge, step_open, take_front, step_shut, trial_shut, trial_open}
 use Rattle.catalogue.specs.Steps.Decide.{step_at, decide_at, decide}
-use Rattle.catalogue.specs.declared.links.VertexLink.{VertexLink}
-use Rattle.catalogue.specs.declared.links.EdgeLink.TheVariants as edge
+use Rattle.std.proofs.Common.{Option}
+use Rattle.catalogue.specs.declared.links.Link.{Link}
 use Rattle.catalogue.specs.declared.links.Room.{Room}
 use Rattle.catalogue.specs.declared.links.Room.TheVariants as room
 use Rattle.catalogue.specs.declared.workers.Ahead.{Ahead}
@@ -42,7 +42,7 @@ use Rattle.catalogue.specs.declared.steps.Landed.{Landed}
 use Rattle.catalogue.specs.declared.steps.EdgeSeen.{EdgeSeen}
 use Rattle.catalogue.specs.declared.steps.EdgeSeen.TheVariants as sees
 use Rattle.catalogue.specs.declared.steps.Decision.{Decision}
-use Rattle.laws.proofs.Picks.{clash, both_true, pick_both, vertex_both, edge_both, target_both}
+use Rattle.laws.proofs.Picks.{clash, both_true, pick_both, link_both, target_both}
 use Rattle.steps.specs.Follows.{Follows}
 use Rattle.laws.proofs.Pools.{edge_in_pool, Handed, handed}
 
@@ -52,8 +52,8 @@ both_both P both.Torn torn dead standing t d s = t
 both_both P both.Dead torn dead standing t d s = d
 both_both P both.Standing torn dead standing t d s = s refl
 
-mark_both : {A : Type 0} (P : A → Type 0) (l : VertexLink) (torn dead live : A) → P torn → P dead → P live → P (at_mark l torn dead live)
-mark_both P l torn dead live t d s = vertex_both P l torn _ t (λ next tag e. pick_both P (eqb tag 1) dead live (λ h. d) (λ h. s))
+mark_both : {A : Type 0} (P : A → Type 0) (l : Option (Link ℕ)) (torn dead live : A) → P torn → P dead → P live → P (at_mark l torn dead live)
+mark_both P l torn dead live t d s = link_both P l torn _ t (λ next tag e. pick_both P (eqb tag 1) dead live (λ h. d) (λ h. s))
 
 -- ---- what an edge look sees: numbers in their pool, where they are written to
 
@@ -70,9 +70,9 @@ Sees p c (sees.Marks next) = c < edge_pool
 Sees p c (sees.Onward next) = Unit {0}
 Sees p c (sees.Settles at) = Behind p × (c < edge_pool)
 
-behind : (C : Catalogue) (u to tag : ℕ) (p : Prev) → link_behind C u p ≡ edge.At to tag → Behind p
+behind : (C : Catalogue) (u to tag : ℕ) (p : Prev) → link_behind C u p ≡ some_link to tag → Behind p
 behind C u to tag First e = tt
-behind C u to tag (Edge p) e = edge_in_pool C.edges.link p to tag (edge_link C p) refl e
+behind C u to tag (Edge p) e = edge_in_pool C.edges.link p _ (edge_link C p) refl e
 
 module _ (C : Catalogue) (l : ℤ) (p : Prev) (c : ℕ) (b : Behind p) (h : c < edge_pool) where
   see_key_sees : (kept next tag : ℕ) → Sees p c (see_key C l c kept next tag)
@@ -85,7 +85,7 @@ module _ (C : Catalogue) (l : ℤ) (p : Prev) (c : ℕ) (b : Behind p) (h : c < 
   unfolding see_edge
   see_edge_sees kept =
       pick_both (Sees p c) (eqb c 0) _ _ (λ e. see_key_sees kept 0 0)
-      (λ e. edge_both (Sees p c) (edge_link C c) _ _ tt
+      (λ e. link_both (Sees p c) (edge_link C c) _ _ tt
       (λ next tag f. pick_both (Sees p c) (eqb tag 1) _ _ (λ g. b)
       (λ g. pick_both (Sees p c) (eqb tag 3) _ _
       (λ a. target_both (Sees p c) (edge_target C c) _ _ tt (λ y t. mark_both (Sees p c) (vertex_link C y) _ _ _ tt h (see_key_sees kept next tag)))
@@ -95,7 +95,7 @@ look_sees : (C : Catalogue) (ends : Ends) (p : Prev) (c : ℕ) → Sees p c (loo
 unfolding look_at_edge see_behind
 look_sees C ends p c =
     both_both (Sees p c) (see_both C ends.u ends.v) _ _ _ tt tt
-    (λ s. edge_both (Sees p c) (link_behind C ends.u p) _ _ tt
+    (λ s. link_both (Sees p c) (link_behind C ends.u p) _ _ tt
     (λ to tag e. pick_both (Sees p c) (eqb tag 1) _ _ (λ f. tt)
     (λ f. pick_both (Sees p c) (ltb c 2048) _ _
     (λ g. pick_both (Sees p c) (eqb to c) _ _
@@ -134,7 +134,7 @@ module _ (C : Catalogue) (w : Worker) where
   decide_vertex_ok : (code : ℕ) (k : ℤ) (p c : ℕ) (s : VertexSeen) → Ok (decide_vertex C code k p c s)
   unfolding start_again
   decide_vertex_ok code k p c seen.Torn = tt
-  decide_vertex_ok code k p c seen.Again = vertex_both Ok (vertex_link C head) _ _ tt (λ first tag e. tt)
+  decide_vertex_ok code k p c seen.Again = link_both Ok (vertex_link C head) _ _ tt (λ first tag e. tt)
   decide_vertex_ok code k p c (seen.Unlinks next) = tt
   decide_vertex_ok code k p c (seen.Onward next) = tt
   decide_vertex_ok code k p c (seen.Settles next equal) = settle_vertex_ok code k p c next equal
@@ -149,23 +149,23 @@ module _ (C : Catalogue) (w : Worker) where
   unfolding found_u
   decide_find_u_ok code pair c found.Torn = tt
   decide_find_u_ok code pair c (found.Onward next) = tt
-  decide_find_u_ok code pair c found.Found = vertex_both Ok (vertex_link C head) _ _ tt (λ first tag e. tt)
+  decide_find_u_ok code pair c found.Found = link_both Ok (vertex_link C head) _ _ tt (λ first tag e. tt)
   decide_find_u_ok code pair c found.Missing = tt
 
   decide_find_v_ok : (code : ℕ) (pair : Pair) (u c : ℕ) (s : VertexFound) → Ok (decide_find_v C code pair u c s)
   unfolding found_v
   decide_find_v_ok code pair u c found.Torn = tt
   decide_find_v_ok code pair u c (found.Onward next) = tt
-  decide_find_v_ok code pair u c found.Found = edge_both Ok (first_link C u) _ _ tt (λ first tag e. tt)
+  decide_find_v_ok code pair u c found.Found = link_both Ok (first_link C u) _ _ tt (λ first tag e. tt)
   decide_find_v_ok code pair u c found.Missing = tt
 
   step_contains_edge_ok : (ends : Ends) (c : ℕ) → Ok (step_contains_edge C ends c)
   unfolding step_contains_edge settle_contains_edge
   step_contains_edge_ok ends c =
       pick_both Ok (ltb c 2048) _ _
-      (λ e. pick_both Ok (lt_z (edge_key C c) ends.pair.l) _ _ (λ f. edge_both Ok (edge_link C c) _ _ tt (λ next tag g. tt))
+      (λ e. pick_both Ok (lt_z (edge_key C c) ends.pair.l) _ _ (λ f. link_both Ok (edge_link C c) _ _ tt (λ next tag g. tt))
       (λ f. pick_both Ok (eq_z (edge_key C c) ends.pair.l) _ _
-      (λ g. edge_both Ok (edge_link C c) _ _ tt
+      (λ g. link_both Ok (edge_link C c) _ _ tt
       (λ next tag a. pick_both Ok (eqb tag 3) _ _
       (λ b. target_both Ok (edge_target C c) _ _ tt
       (λ y d. pick_both Ok (eqb y ends.v) _ _ (λ x. both_both Ok (see_both C ends.u ends.v) _ _ _ tt tt (λ s. tt)) (λ x. tt)))
@@ -193,7 +193,7 @@ module _ (C : Catalogue) (w : Worker) where
   unfolding restart
   decide_edge_ok code ends p c sees.Torn h = tt
   decide_edge_ok code ends p c sees.Dead h = tt
-  decide_edge_ok code ends p c sees.Again h = edge_both Ok (first_link C ends.u) _ _ tt (λ first tag e. tt)
+  decide_edge_ok code ends p c sees.Again h = link_both Ok (first_link C ends.u) _ _ tt (λ first tag e. tt)
   decide_edge_ok code ends First c (sees.Unlinks kept next) h = tt
   decide_edge_ok code ends (Edge p) c (sees.Unlinks kept next) h = h
   decide_edge_ok code ends p c (sees.Marks next) h = h
@@ -202,7 +202,7 @@ module _ (C : Catalogue) (w : Worker) where
 
   end_trial_ok : (e tag reply : ℕ) → Ok (end_trial C e tag reply)
   unfolding end_trial
-  end_trial_ok e tag reply = edge_both Ok (edge_link C e) _ _ tt (λ next old f. edge_in_pool C.edges.link e next old (edge_link C e) refl f)
+  end_trial_ok e tag reply = link_both Ok (edge_link C e) _ _ tt (λ next old f. edge_in_pool C.edges.link e _ (edge_link C e) refl f)
 
   trial_open_ok : (ends : Ends) (e x c : ℕ) → Ok (trial_open C a ends e x c)
   unfolding trial_open step_open pass_edge cross
@@ -210,7 +210,7 @@ module _ (C : Catalogue) (w : Worker) where
       both_both Ok (see_trial C a ends) _ _ _ tt (end_trial_ok e 1 3)
       (λ s. mark_both Ok (vertex_link C x) _ _ _ tt tt
       (pick_both Ok (eqb c 0) _ _ (λ f. tt)
-      (λ f. edge_both Ok (edge_link C c) _ _ tt
+      (λ f. link_both Ok (edge_link C c) _ _ tt
       (λ next tag g. pick_both Ok (eqb tag 1) _ _ (λ i. tt)
       (λ i. target_both Ok (edge_target C c) _ _ tt
       (λ y b. mark_both Ok (vertex_link C y) _ _ _ tt tt
@@ -224,7 +224,7 @@ module _ (C : Catalogue) (w : Worker) where
       (λ s. pick_both Ok (eqb a.front a.back) _ _ (λ f. end_trial_ok e 3 1)
       (λ f. let below : a.front < 256 = omega (arith, ends_in_order C a ends s, eqb-false a.front a.back f) in
       pick_both Ok (eqb a.x ends.u) _ _ (λ g. end_trial_ok e 1 6)
-      (λ g. mark_both Ok (vertex_link C a.x) _ _ _ tt below (edge_both Ok (first_link C a.x) _ _ tt (λ c tag h. below)))))
+      (λ g. mark_both Ok (vertex_link C a.x) _ _ _ tt below (link_both Ok (first_link C a.x) _ _ tt (λ c tag h. below)))))
 
   step_at_ok : (place : Place) → Ok (step_at C place a)
   unfolding step_vertex step_contains step_find_u step_find_v step_edge

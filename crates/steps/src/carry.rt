@@ -16,21 +16,13 @@ pub fn record_after(w: Worker, d: Decision) -> Worker
     ensures { result ≡ record_after w d }
 {
     match d {
-        Decision::Torn => w,
-        Decision::Code => w,
-        Decision::Going { next, write: _ } => bare(next),
-        Decision::Begins {
-            next,
-            write: _,
-            met,
-        } => begun(next, met),
+        Decision::Torn | Decision::Code => w,
+        Decision::Going { next, .. } => bare(next),
+        Decision::Begins { next, met, .. } => begun(next, met),
         Decision::Keeps { next } => kept(w, next),
         Decision::Meets { next, met } => queued(w, next, met),
         Decision::Takes { next } => taken(w, next),
-        Decision::Reply {
-            number: _,
-            write: _,
-        } => idle(),
+        Decision::Reply { .. } => idle(),
     }
 }
 
@@ -39,18 +31,10 @@ pub fn write_of(d: Decision) -> Write
     ensures { result ≡ write_of d }
 {
     match d {
-        Decision::Torn => Write::Nothing,
-        Decision::Code => Write::Nothing,
-        Decision::Going { next: _, write } => write,
-        Decision::Begins {
-            next: _,
-            write,
-            met: _,
-        } => write,
-        Decision::Keeps { next: _ } => Write::Nothing,
-        Decision::Meets { next: _, met: _ } => Write::Nothing,
-        Decision::Takes { next: _ } => Write::Nothing,
-        Decision::Reply { number: _, write } => write,
+        Decision::Going { write, .. }
+        | Decision::Begins { write, .. }
+        | Decision::Reply { write, .. } => write,
+        _ => Write::Nothing,
     }
 }
 
@@ -58,31 +42,18 @@ pub fn write_of(d: Decision) -> Write
 fn going(after: Worker) -> Answer
     ensures { result ≡ going after }
 {
-    let met = after.reach.met;
     Answer::Going {
-        met: met_count(met),
+        met: met_count(after.reach.met),
     }
 }
 
-pub fn answer_of(d: Decision, after: Worker) -> Answer
+pub fn answer_of(d: Decision, after: Worker) -> Result<Answer, Refusal>
     ensures { result ≡ answer_of d after }
 {
     match d {
-        Decision::Torn => Answer::Refused {
-            refusal: Refusal::Torn,
-        },
-        Decision::Code => Answer::Refused {
-            refusal: Refusal::Code,
-        },
-        Decision::Reply { number, write: _ } => Answer::Reply { number },
-        Decision::Going { next: _, write: _ } => going(after),
-        Decision::Begins {
-            next: _,
-            write: _,
-            met: _,
-        } => going(after),
-        Decision::Keeps { next: _ } => going(after),
-        Decision::Meets { next: _, met: _ } => going(after),
-        Decision::Takes { next: _ } => going(after),
+        Decision::Torn => Err(Refusal::Torn),
+        Decision::Code => Err(Refusal::Code),
+        Decision::Reply { number, .. } => Ok(Answer::Reply { number }),
+        _ => Ok(going(after)),
     }
 }

@@ -1,4 +1,5 @@
 -- What the walk over the live vertices finds from a vertex on, by its list and by what it finds from the next on.
+use Rattle.std.proofs.Common.{Option, Some, None}
 use Prim.Native.Nat.{ℕ, ◌+◌, ◌*◌, ◌-◌, ◌≤◌}
 use mathlib.Core.Bool.{Bool, true, false}
 use mathlib.Core.List.{List, [], ◌∷◌, ◌++◌}
@@ -14,22 +15,10 @@ use Rattle.catalogue.specs.Numbers.{tail, most_edges}
 use Rattle.catalogue.specs.Catalogue.{Catalogue}
 use Rattle.catalogue.specs.Live.{walk, next_vertex, unmarked, live_edges_of, gather}
 use Rattle.catalogue.specs.Soundness.{Asks, edges_sound}
-use Rattle.laws.proofs.Picks.{clash}
 use Rattle.laws.proofs.Walks.{walk_spent, walk_end, walk_on}
 use Rattle.survey.proofs.EdgeLaws.{at_most}
-use Rattle.survey.proofs.WalkLaws.{falls}
+use Rattle.survey.proofs.WalkLaws.{told_some, told_none, falls}
 use Rattle.survey.specs.Walks.{within, edges_at, lists_from}
-use Rattle.survey.specs.declared.edges.Edges.{Edges}
-use Rattle.survey.specs.declared.edges.Edges.TheVariants as edges
-
--- what a sound result for a list of edges says of it
-told_sound : (t : Bool) (n live : ℕ) → pick t (edges.Sound n) edges.Unsound ≡ edges.Sound live → (t ≡ true) × (live ≡ n)
-told_sound true n live e = (refl, cc)
-told_sound false n live e = clash (cc)
-
-told_unsound : (t : Bool) (n : ℕ) → pick t (edges.Sound n) edges.Unsound ≡ edges.Unsound → t ≡ false
-told_unsound true n e = clash (cc)
-told_unsound false n e = refl
 
 module _ (live test : ℕ → Bool) (holds : ℕ → List ℕ) (n : ℕ) where
   abbrev sum : List ℕ → Bool
@@ -81,18 +70,18 @@ module _ (asks : Asks) (C : Catalogue) (n left x : ℕ) where
     unfolding lists_from
     lists_skip r q k = k ∙ sum_skip (unmarked C) (edges_sound asks C) (live_edges_of C) n x (rest_at y) (sym e ∙ q) ∙ goes_on
 
-    module _ (q : u ≡ true) (s : Edges) (g : s ≡ edges_at asks C x) where
-      pub lists_off : s ≡ edges.Unsound → false ≡ lists_from asks C n left x
+    module _ (q : u ≡ true) (s : Option ℕ) (g : s ≡ edges_at asks C x) where
+      pub lists_off : s ≡ None → false ≡ lists_from asks C n left x
       unfolding lists_from edges_at
       lists_off p =
           sum_off (unmarked C) (edges_sound asks C) (live_edges_of C) n x (rest_at y) (sym e ∙ q)
-          (told_unsound (edges_sound asks C x) (length (live_edges_of C x)) (sym g ∙ p))
+          (told_none (edges_sound asks C x) (length (live_edges_of C x)) (sym p ∙ g))
           ∙ goes_on
 
-      pub lists_on : (live : ℕ) (r : Bool) → s ≡ edges.Sound live → r ≡ lists_from asks C (n + live) (left - 1) y → r ≡ lists_from asks C n left x
+      pub lists_on : (live : ℕ) (r : Bool) → s ≡ Some live → r ≡ lists_from asks C (n + live) (left - 1) y → r ≡ lists_from asks C n left x
       unfolding lists_from edges_at
       lists_on live r p k =
-          let told = told_sound (edges_sound asks C x) (length (live_edges_of C x)) live (sym g ∙ p) in
+          let told = told_some (edges_sound asks C x) (length (live_edges_of C x)) live (sym p ∙ g) in
           k
           ∙ sum_on (unmarked C) (edges_sound asks C) (live_edges_of C) n x (rest_at y) (sym e ∙ q) live told.0 told.1
           ∙ goes_on
@@ -102,7 +91,7 @@ module _ (n left : ℕ) (h : n + 2048 * left ≤ 524288) (on : left ≡ 0 → �
   pub sum_less : n + 2048 * (left - 1) ≤ 524288
   sum_less = omega arith
 
-  module _ (asks : Asks) (C : Catalogue) (x live : ℕ) (r : Edges) (e : r ≡ edges_at asks C x) (q : r ≡ edges.Sound live) where
+  module _ (asks : Asks) (C : Catalogue) (x live : ℕ) (r : Option ℕ) (e : r ≡ edges_at asks C x) (q : r ≡ Some live) where
     pub sum_more : n + live + 2048 * (left - 1) ≤ 524288
     sum_more = omega (arith, at_most asks C x live r e q)
 

@@ -5,6 +5,8 @@ use mathlib.Core.List.{List}
 use mathlib.Core.Path.{◌≡◌, refl, sym, ◌∙◌}
 use mir.Syntax.{w8, w32}
 use mir.Val.{Fits, SFits, of_z, to_z}
+use borrow.Author.Rules.{sfits_of}
+use borrow.Author.Tests.{eq-eqb, ne_eqb}
 use lib.IntN.{ℤ}
 use lib.Signed.{lt_z}
 use Rattle.catalogue.specs.Tests.{pick, eq_z, member}
@@ -14,7 +16,7 @@ use Rattle.catalogue.specs.Workers.{has}
 use Rattle.catalogue.specs.Soundness.{sweep, tag_fits}
 use Rattle.survey.proofs.Pools.{edge_to}
 use Rattle.survey.specs.Walks.{asks_of, Ready}
-use Rattle.laws.proofs.Ways.{ways, lt_z_read, eq_z_read_true, eq_z_read_false}
+use Rattle.laws.proofs.Ways.{ways, on_true, on_false, link_at, link_torn, lt_z_read, eq_z_read_true, eq_z_read_false}
 
 -- a call's answer was tested
 module _ {A : Type 0} (x : A) (t r : Bool) (a b : A) (e : r ≡ t) where
@@ -51,3 +53,6 @@ pub met_on : (keys : List ℤ) (words met : List ℕ) (y : ℕ) (r : Bool) → r
 met_on keys words met y r e m h = e ∙ m.on y h.fits
 
 pub ruleset told_ways = (told_true, told_false, met_on, sweep_fits, listing_fits, lt_z_both, lt_z_says, eq_z_both_true, eq_z_both_false, edge_to, ways)
+
+-- the reads and the tests of a target, and no more: so a search that fails has tried every way
+pub ruleset target_ways = (on_true, on_false, eq_z_both_true, eq_z_both_false, link_at, link_torn, eq-eqb, ne_eqb, met_on, sfits_of)

@@ -1,15 +1,12 @@
 -- What the walks of the survey find from a node on, with so much of the walk left; and which call asks, by a flag.
-use Rattle.std.specs.Prelude.{ℕ, ◌+◌, ◌<◌, Bool, true, false, List, [], ◌∷◌, ◌≡◌, ℤ, length, replicate, leb}
+use Rattle.std.specs.Prelude.{ℕ, ◌+◌, ◌<◌, Bool, true, false, List, [], ◌∷◌, ◌≡◌, ℤ, length, replicate, leb, Option, Some, None}
 use Rattle.catalogue.specs.Tests.{pick, keep, every, member}
 use Rattle.catalogue.specs.Numbers.{vertex_pool, tail, edge_tail, most_edges}
 use Rattle.catalogue.specs.Catalogue.{Catalogue}
-use Rattle.catalogue.specs.Lent.{Sized, catalogue_in}
+use Rattle.catalogue.specs.Lent.{catalogue_in}
 use Rattle.catalogue.specs.Live.{walk, next_vertex, next_edge, vertices, unmarked, is_live, live_edges_of, gather}
 use Rattle.catalogue.specs.Workers.{has, with_met}
 use Rattle.catalogue.specs.Soundness.{Asks, listing, sweep, vertex_sound, edge_sound, edges_sound}
-use Rattle.survey.specs.declared.walks.Walked.{Walked}
-use Rattle.survey.specs.declared.edges.Edges.{Edges}
-use Rattle.survey.specs.declared.edges.Edges.TheVariants as edges
 
 -- the flag that a call hands on
 abbrev pub asks_of : Bool → Asks
@@ -20,39 +17,38 @@ asks_of false = listing
 abbrev pub linked : List ℕ → Catalogue
 linked words = catalogue_in [] words
 
--- Slices of the stated sizes, and a set that has exactly the vertices on their walk.
+-- A set that has exactly the vertices on the walk of a catalogue.
 pub record Ready (keys : List ℤ) (words met : List ℕ) : Type 0 where
-  pub sized : Sized keys words
   pub on : (y : ℕ) → y < vertex_pool → has met y ≡ member y (vertices (catalogue_in keys words))
 
 -- a set with one number more, unless it has it
 unfoldable pub also_met : List ℕ → ℕ → List ℕ
 also_met met n = pick (has met n) met (with_met met n)
 
--- the members of a list before the first that does not pass, as a set
-unfoldable pub met_of : (ℕ → Bool) → List ℕ → List ℕ
-met_of test [] = replicate 4 0
-met_of test (x ∷ xs) = pick (test x) (also_met (met_of test xs) x) (replicate 4 0)
+-- the members of a list, as a set
+unfoldable pub met_of : List ℕ → List ℕ
+met_of [] = replicate 4 0
+met_of (x ∷ xs) = also_met (met_of xs) x
 
--- What a walk finds of a list of vertices: whether all pass, and which they are.
-abbrev pub found : (ℕ → Bool) → List ℕ → Walked
-found test l = record { sound = every test l; met = met_of test l }
+-- What a walk finds of a list of vertices: which they are, where all pass.
+abbrev pub found : (ℕ → Bool) → List ℕ → Option (List ℕ)
+found test l = pick (every test l) (Some (met_of l)) None
 
 -- the vertex walk from x on, where it has so many nodes left
-unfoldable pub walk_from : Catalogue → ℕ → ℕ → Walked
+unfoldable pub walk_from : Catalogue → ℕ → ℕ → Option (List ℕ)
 walk_from C left x = found (vertex_sound C) (walk (next_vertex C) tail left x)
 
 -- What a walk finds of a list of edges: how many more are live, where all pass.
-abbrev pub counted : (ℕ → Bool) → (ℕ → Bool) → ℕ → List ℕ → Edges
-counted test live n l = pick (every test l) (edges.Sound (n + length (keep live l))) edges.Unsound
+abbrev pub counted : (ℕ → Bool) → (ℕ → Bool) → ℕ → List ℕ → Option ℕ
+counted test live n l = pick (every test l) (Some (n + length (keep live l))) None
 
 -- the walk of an edge list from e on, where it has so many nodes left and has counted n live edges
-unfoldable pub edges_from : Asks → Catalogue → ℕ → ℕ → ℕ → Edges
+unfoldable pub edges_from : Asks → Catalogue → ℕ → ℕ → ℕ → Option ℕ
 edges_from asks C n left e = counted (edge_sound asks C) (is_live C) n (walk (next_edge C) edge_tail left e)
 
 -- the whole list of a vertex
-unfoldable pub edges_at : Asks → Catalogue → ℕ → Edges
-edges_at asks C x = pick (edges_sound asks C x) (edges.Sound (length (live_edges_of C x))) edges.Unsound
+unfoldable pub edges_at : Asks → Catalogue → ℕ → Option ℕ
+edges_at asks C x = pick (edges_sound asks C x) (Some (length (live_edges_of C x))) None
 
 -- What a walk finds of vertices by their lists: whether all pass,
 -- and n and what they hold together are within the limit.

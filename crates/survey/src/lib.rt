@@ -4,5 +4,6 @@
 pub mod edges;
 pub mod lists;
 pub mod soundness;
+pub mod surveys;
 pub mod tests;
 pub mod walks;

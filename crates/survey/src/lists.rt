@@ -1,33 +1,23 @@
 // The walk over the live vertices: each list is walked, and the live edges of all are summed.
 ghost use Rattle.std.specs.Prelude.{◌≡◌, ◌+◌, ◌*◌, ◌≤◌, leb};
-ghost use Rattle.catalogue.specs.Lent.{catalogue_in};
-ghost use Rattle.survey.specs.Walks.{asks_of, Ready, lists_from};
+ghost use Rattle.survey.specs.Walks.{asks_of, lists_from};
+ghost use Rattle.memory.specs.Memories.{held};
 
-use crate::edges::{Edges, edges_at};
+use crate::edges::edges_at;
+use crate::surveys::Survey;
 use crate::tests::{next_vertex, unmarked};
 
 fn within_limit(seen: u32) -> bool
     ensures { result ≡ leb seen 2047 }
 {
-    if seen <= 2047 {
-        return true;
-    }
-    false
+    seen <= 2047
 }
 
 // `left` is what the definition allows a walk; the sum grows by a pool at each vertex at most.
-pub fn lists_from(
-    keys: &[i32],
-    words: &[u32],
-    met: [u64; 4],
-    sweep: bool,
-    seen: u32,
-    left: u16,
-    x: u8,
-) -> bool
-    requires ready { Ready keys.now words.now met }
-    requires left_bound { seen + 2048 * left ≤ 524288 }
-    ensures { result ≡ lists_from (asks_of sweep) (catalogue_in keys.now words.now) seen left x }
+#[tactic(auto, using(crate::proofs::ListLaws::lists_cases))]
+pub fn lists_from(survey: Survey, seen: u32, left: u16, x: u8) -> bool
+    requires { seen + 2048 * left ≤ 524288 }
+    ensures { result ≡ lists_from (asks_of survey.entry.sweep) (held survey.entry.lent) seen left x }
 {
     if left == 0 {
         return within_limit(seen);
@@ -35,12 +25,12 @@ pub fn lists_from(
     if x == 1 {
         return within_limit(seen);
     }
-    let next = next_vertex(words, x);
-    if unmarked(words, x) {
-        let Edges::Sound { live } = edges_at(keys, words, met, sweep, x) else {
+    let next = next_vertex(survey.lent.words, x);
+    if unmarked(survey.lent.words, x) {
+        let Some(live) = edges_at(survey, x) else {
             return false;
         };
-        return lists_from(keys, words, met, sweep, seen + live, left - 1, next);
+        return lists_from(survey, seen + live, left - 1, next);
     }
-    lists_from(keys, words, met, sweep, seen, left - 1, next)
+    lists_from(survey, seen, left - 1, next)
 }

@@ -1,19 +1,14 @@
 // The vertex walk: each node is tested, and those that the walk meets are the set that answers for all targets.
 ghost use Rattle.std.specs.Prelude.{◌≡◌};
-ghost use Rattle.catalogue.specs.Lent.{Sized, catalogue_in};
 ghost use Rattle.survey.specs.Walks.{also_met, walk_from};
+ghost use Rattle.memory.specs.Memories.{held};
 
 use crate::tests::{next_vertex, vertex_sound};
+use memory::Lent;
 use workers::met::{met_has, with_met};
 
-// What the walk found. The set is of use only where all is sound.
-#[derive(Clone, Copy)]
-pub struct Walked {
-    pub sound: bool,
-    pub met: [u64; 4],
-}
-
 // In unchecked memory a walk may meet a vertex twice.
+#[tactic(auto, unfolding(crate::specs::Walks::also_met))]
 fn also_met(met: [u64; 4], n: u8) -> [u64; 4]
     ensures { result ≡ also_met met n }
 {
@@ -23,35 +18,22 @@ fn also_met(met: [u64; 4], n: u8) -> [u64; 4]
     with_met(met, n)
 }
 
+// The vertices that the walk met, where all are sound.
 // `left` is what the definition allows a walk: it ends there even if the links go round.
-pub fn walk_from(keys: &[i32], words: &[u32], left: u16, x: u8) -> Walked
-    requires { Sized keys.now words.now }
-    ensures { result ≡ walk_from (catalogue_in keys.now words.now) left x }
+#[tactic(auto, using(crate::proofs::WalkLaws::walk_cases))]
+pub fn walk_from(lent: Lent, left: u16, x: u8) -> Option<[u64; 4]>
+    ensures { result ≡ walk_from (held lent.entry) left x }
 {
     if left == 0 {
-        return Walked {
-            sound: true,
-            met: [0u64; 4],
-        };
+        return Some([0; 4]);
     }
     if x == 1 {
-        return Walked {
-            sound: true,
-            met: [0u64; 4],
-        };
+        return Some([0; 4]);
     }
-    if vertex_sound(keys, words, x) {
-        let next = next_vertex(words, x);
-        let rest = walk_from(keys, words, left - 1, next);
-        let others = rest.met;
-        let met = also_met(others, x);
-        return Walked {
-            sound: rest.sound,
-            met,
-        };
+    if vertex_sound(lent, x) {
+        let next = next_vertex(lent.words, x);
+        let met = walk_from(lent, left - 1, next)?;
+        return Some(also_met(met, x));
     }
-    Walked {
-        sound: false,
-        met: [0u64; 4],
-    }
+    None
 }

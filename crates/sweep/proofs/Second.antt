@@ -12,8 +12,7 @@ use Rattle.catalogue.specs.Live.{next_vertex, unmarked, live_vertices, live_edge
 use Rattle.catalogue.specs.Soundness.{sweep, edges_sound, target_sound, sound}
 use Rattle.catalogue.specs.Sweep.{renumbered, swept_edge, swept_edges, swept, held}
 use Rattle.catalogue.specs.Lent.{Memory, memory_of, catalogue_in, lay}
-use Rattle.catalogue.specs.declared.links.Target.{Target}
-use Rattle.catalogue.specs.declared.links.Target.TheVariants as target
+use Rattle.std.proofs.Common.{Option, Some, None}
 use Rattle.laws.proofs.Members.{All, all_each, all_join, all_of, map_same}
 use Rattle.laws.proofs.Gathers.{gather_same, live_many, live_made}
 use Rattle.memory.specs.Memories.{Hold}
@@ -42,10 +41,10 @@ module _ (C : Catalogue) (s : sound sweep C ≡ true) where
   renumbers : All (λ y. number y ≡ renumbered C y) live
   renumbers = placed 256 live 0 (replicate 256 0) (live_distinct sweep C s) (live_within sweep C s) refl
 
-  target_same : (e : ℕ) (l : Target) → at_target l false (unmarked C) ≡ true → at_target l false (target_sound C e) ≡ true
+  target_same : (e : ℕ) (l : Option ℕ) → at_target l false (unmarked C) ≡ true → at_target l false (target_sound C e) ≡ true
       → at_target l 0 number ≡ at_target l 0 (renumbered C)
-  target_same e (target.At y) u t = all_of (λ z. number z ≡ renumbered C z) live renumbers y (live_target C e y u t)
-  target_same e target.Torn u t = refl
+  target_same e (Some y) u t = all_of (λ z. number z ≡ renumbered C z) live renumbers y (live_target C e y u t)
+  target_same e None u t = refl
 
   list_same : (x : ℕ) → (edges_sound sweep C x ≡ true) × (number x ≡ renumbered C x)
       → map (made (edge_key C) (target_number C table) (number x)) (live_of C x) ≡ map (swept_edge C x) (live_edges_of C x)

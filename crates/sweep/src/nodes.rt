@@ -1,12 +1,13 @@
 // One new node of the second catalogue: it is put at the end of its list.
-ghost use Rattle.std.specs.Prelude.{◌≡◌, ◌+◌, ◌<◌, length, set};
-ghost use Rattle.catalogue.specs.Lent.{words_size, Sized, memory_of};
+ghost use Rattle.std.specs.Prelude.{◌≡◌, ◌+◌, ◌<◌, set};
+ghost use Rattle.catalogue.specs.Lent.{memory_of};
 ghost use Rattle.survey.specs.Walks.{linked};
 ghost use Rattle.sweep.specs.Built.{committed, last_vertex, vertex_write, edge_write, with_edge, target_number};
 
-use catalogue::links::Target;
+use catalogue::links::ADDED;
 use catalogue::writes::Write;
 use memory::reads::edge_target;
+use memory::{Keys, Words};
 use writing::writes::commit;
 
 // The head, where no vertex is made yet.
@@ -21,9 +22,8 @@ fn last_vertex(n: u8) -> u8
 }
 
 // A vertex after the n that are made; it is the last one, so it leads to the tail.
-pub fn add_vertex(new_keys: &mut [i32], new_words: &mut [u32], n: u8, key: i32)
-    requires sized { Sized new_keys.old new_words.old }
-    requires n_bound { n < 254 }
+pub fn add_vertex(new_keys: &mut Keys, new_words: &mut Words, n: u8, key: i32)
+    requires { n < 254 }
     ensures { memory_of new_keys.new new_words.new ≡ committed (memory_of new_keys.old new_words.old) (vertex_write n key) }
 {
     let p = last_vertex(n);
@@ -40,9 +40,8 @@ pub fn add_vertex(new_keys: &mut [i32], new_words: &mut [u32], n: u8, key: i32)
 }
 
 // The new number of x, after n others.
-pub fn put_number(numbers: &mut [u8], x: u8, n: u8)
-    requires numbers_len { length numbers.old ≡ 256 }
-    requires n_bound { n < 254 }
+pub fn put_number(numbers: &mut [u8; 256], x: u8, n: u8)
+    requires { n < 254 }
     ensures { numbers.new ≡ set numbers.old x (2 + n) }
 {
     let at = x as usize;
@@ -70,21 +69,20 @@ fn edge_write(n: u16, key: i32, target: u8, source: u8, p: u16) -> Write
         target,
         next: 0,
         p,
-        tag: 3,
+        tag: ADDED,
     }
 }
 
 // The write of a new edge puts it on trial, so its own link is written once more.
 pub fn add_edge(
-    new_keys: &mut [i32],
-    new_words: &mut [u32],
+    new_keys: &mut Keys,
+    new_words: &mut Words,
     n: u16,
     key: i32,
     target: u8,
     source: u8,
     p: u16,
 )
-    requires sized { Sized new_keys.old new_words.old }
     requires n_bound { n < 2047 }
     requires p_bound { p < 2048 }
     ensures { memory_of new_keys.new new_words.new ≡ with_edge n key target source p (memory_of new_keys.old new_words.old) }
@@ -97,19 +95,17 @@ pub fn add_edge(
         Write::EdgeLink {
             edge: 1 + n,
             next: 0,
-            tag: 3,
+            tag: ADDED,
         },
     );
 }
 
 // A live edge has a whole target; the number of a torn one is of no use.
-pub fn target_number(words: &[u32], numbers: &[u8], e: u16) -> u8
-    requires words_len { length words.now ≡ words_size }
-    requires numbers_len { length numbers.now ≡ 256 }
-    requires e_bound { e < 2048 }
+pub fn target_number(words: &Words, numbers: &[u8; 256], e: u16) -> u8
+    requires { e < 2048 }
     ensures { result ≡ target_number (linked words.now) numbers.now e }
 {
-    let Target::At { vertex } = edge_target(words, e) else {
+    let Some(vertex) = edge_target(words, e) else {
         return 0;
     };
     let at = vertex as usize;

@@ -8,36 +8,41 @@ use lib.ListN.{length, set, take, drop, length-append, length-set, length-drop, 
 use lib.Seq.{take_all}
 use Rattle.catalogue.specs.Text.{decimal}
 use Rattle.text.specs.Puts.{put_at}
-use Rattle.text.proofs.Decimals.{decimal_one, decimal_more, length_more, length_some, length_decimal}
+use Rattle.text.proofs.Decimals.{decimal_one, decimal_more, length_some, length_decimal}
 
 drop_stored : (s : List ℕ) (i d : ℕ) → i < length s → drop i (set s i d) ≡ d ∷ drop (suc i) s
 drop_stored [] i d h = absurd (omega arith)
 drop_stored (x ∷ s) zero d h = refl
 drop_stored (x ∷ s) (suc i) d h = drop_stored s i d (omega arith)
 
--- the digits of what is left of n, and then those after the place `first`, are the digits of n
+-- the digits of what is left of n, and then those from the place `first` on, are the digits of n
 abbrev pub Spelling : ℕ → List ℕ → ℕ → ℕ → Type 0
-Spelling n s first rest = (decimal n ≡ decimal rest ++ drop (suc first) s) × ((first < 10) × (length s ≡ 10))
+Spelling n s first rest = (decimal n ≡ decimal rest ++ drop first s) × (length s ≡ 10)
 
 module _ (n : ℕ) (s : List ℕ) where
-  pub spelling_none : length s ≡ 10 → Spelling n s 9 n
-  spelling_none h = (rw (drop_of_length-le s {i = 10} (omega arith), append-nil), (omega arith, h))
+  pub spelling_none : length s ≡ 10 → Spelling n s 10 n
+  spelling_none h = (rw (drop_of_length-le s {i = 10} (omega arith), append-nil), h)
 
   module _ (first rest : ℕ) (k : Spelling n s first rest) where
-    pub spelling_room : n < 2 ^ 32 → 10 ≤ rest → 1 ≤ first
-    spelling_room fits more =
-        omega
-        (arith, ap length k.0, length-append (decimal rest) (drop (suc first) s), length-drop (suc first) s, length_decimal n fits, length_more rest more, length_some (rest / 10))
+    -- as long as there are ten digits at most, a place is left for each
+    pub spelling_room : n < 2 ^ 32 → first ≤ 0 → s ≡ decimal n
+    spelling_room fits none =
+        absurd (omega (arith, ap length k.0, length-append (decimal rest) (drop first s), length-drop first s, length_decimal n fits, length_some rest))
 
-    pub spelling_more : n < 2 ^ 32 → 10 ≤ rest → Spelling n (set s first (48 + rest % 10)) (first - 1) (rest / 10)
-    spelling_more fits more =
-        let room : 1 ≤ first = spelling_room fits more in
-        let here : suc (first - 1) ≡ first = omega arith in
-        let stored : drop first (set s first (48 + rest % 10)) ≡ (48 + rest % 10) ∷ drop (suc first) s = drop_stored s first (48 + rest % 10) (omega arith) in
-        (rw (here, stored, k.0, decimal_more rest more, append_assoc), (omega arith, length-set s first (48 + rest % 10) ∙ k.1.1))
+    module _ (some : 0 < first) (within : first ≤ 10) where
+      stored : (d : ℕ) → drop (first - 1) (set s (first - 1) d) ≡ d ∷ drop first s
+      stored d = let here : suc (first - 1) ≡ first = omega arith in drop_stored s (first - 1) d (omega arith) ∙ ap (λ i. d ∷ drop i s) here
 
-    pub spelling_all : rest < 10 → drop first (set s first (48 + rest)) ≡ decimal n
-    spelling_all one = rw (k.0, decimal_one rest one) (drop_stored s first (48 + rest) (omega arith))
+      pub spelling_more : (rest / 10 ≡ 0 → ⊥) → Spelling n (set s (first - 1) (48 + rest % 10)) (first - 1) (rest / 10)
+      spelling_more more =
+          let many : 10 ≤ rest = omega arith in
+          (rw (stored (48 + rest % 10), k.0, decimal_more rest many, append_assoc), length-set s (first - 1) (48 + rest % 10) ∙ k.1)
+
+      pub spelling_all : rest / 10 ≡ 0 → drop (first - 1) (set s (first - 1) (48 + rest % 10)) ≡ decimal n
+      spelling_all one =
+          let last : rest % 10 ≡ rest = omega arith in
+          let few : rest < 10 = omega arith in
+          rw (k.0, decimal_one rest few, last) (stored (48 + rest))
 
 -- what a caller has of ten places whose end spells a number: where it begins, and that end as a part
 module _ (s : List ℕ) (n first : ℕ) (spelt : drop first s ≡ decimal n) (ten : length s ≡ 10) where
@@ -55,4 +60,4 @@ module _ (s : List ℕ) (n first : ℕ) (spelt : drop first s ≡ decimal n) (te
 
 pub ruleset spelt = (spelt_within, spelt_put, spelt_end)
 
-pub ruleset spellings = (spelling_none, spelling_more, spelling_all)
+pub ruleset spellings = (spelling_none, spelling_room, spelling_more, spelling_all)

@@ -1,4 +1,5 @@
-// Each call writes at `at` and returns where the next one goes on.
+// Each call writes at `at` and returns where the next one goes on. There is no heap: an output is lent memory of a
+// fixed size, so the place stands beside it.
 ghost use Rattle.std.specs.Prelude.{◌≡◌, [], ◌∷◌, ◌+◌, ◌<◌, ◌≤◌, nat_abs, length, drop};
 ghost use Rattle.catalogue.specs.Text.{decimal, number};
 ghost use Rattle.text.specs.Puts.{put_at};
@@ -17,30 +18,29 @@ pub fn put_bytes(output: &mut [u8], at: usize, bytes: &[u8]) -> usize
     ensures output_after { output.new ≡ put_at output.old at bytes.now }
     ensures value { result ≡ at + length bytes.now }
 {
-    let mut i = 0;
-    while i < bytes.len() {
-        output[at + i] = bytes[i];
-        i += 1;
-    }
-    at + i
+    let end = at + bytes.len();
+    output[at..end].copy_from_slice(bytes);
+    end
 }
 
 // The digits come out last one first, so they fill the scratch from its end; returns where they begin.
-fn spell(scratch: &mut [u8], n: u32) -> usize
-    requires { length scratch.old ≡ 10 }
+#[tactic(auto, using(crate::proofs::Spelling::spellings))]
+fn spell(scratch: &mut [u8; 10], n: u32) -> usize
     ensures { drop result scratch.new ≡ decimal n }
 {
-    let mut first = 9;
     let mut rest = n;
-    while 10 <= rest {
+    for first in (0..10).rev() {
         scratch[first] = 48 + ((rest % 10) as u8);
-        first -= 1;
         rest = rest / 10;
+        if rest == 0 {
+            return first;
+        }
     }
-    scratch[first] = 48 + (rest as u8);
-    first
+    // Not reached: ten places are enough for 32 bits.
+    0
 }
 
+#[tactic(auto, using(crate::proofs::Spelling::spelt))]
 pub fn put_natural(output: &mut [u8], at: usize, n: u32) -> usize
     requires { at + 10 ≤ length output.old }
     ensures output_after { output.new ≡ put_at output.old at (decimal n) }

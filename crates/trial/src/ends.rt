@@ -1,21 +1,22 @@
 // (a), and how a trial ends.
 ghost use Rattle.std.specs.Prelude.{◌≡◌};
-ghost use Rattle.catalogue.specs.Lent.{Sized, catalogue_in};
 ghost use Rattle.catalogue.specs.Steps.Trial.{end_trial, see_trial};
+ghost use Rattle.memory.specs.Memories.{held};
 
-use catalogue::links::EdgeLink;
+use catalogue::links::Link;
 use catalogue::steps::{BothSeen, Decision};
 use catalogue::workers::{Ahead, Ends};
 use catalogue::writes::Write;
 use looks::both::see_both;
+use memory::Lent;
 use memory::reads::edge_link;
 
 // The own edge gets its last tag, and the trial ends with a reply.
-pub fn end_trial(keys: &[i32], words: &[u32], e: u16, tag: u8, reply: u8) -> Decision
-    requires { Sized keys.now words.now }
-    ensures { result ≡ end_trial (catalogue_in keys.now words.now) e tag reply }
+#[tactic(auto, unfolding(catalogue::specs::Steps::Trial::end_trial))]
+pub fn end_trial(lent: Lent, e: u16, tag: u8, reply: u8) -> Decision
+    ensures { result ≡ end_trial (held lent.entry) e tag reply }
 {
-    let EdgeLink::At { next, tag: _ } = edge_link(words, e) else {
+    let Some(Link { next, .. }) = edge_link(lent.words, e) else {
         return Decision::Torn;
     };
     Decision::Reply {
@@ -25,13 +26,13 @@ pub fn end_trial(keys: &[i32], words: &[u32], e: u16, tag: u8, reply: u8) -> Dec
 }
 
 // (a) The ends of the queue in order, then the marks of u and v.
-pub fn see_trial(keys: &[i32], words: &[u32], ahead: Ahead, ends: Ends) -> BothSeen
-    requires { Sized keys.now words.now }
-    ensures { result ≡ see_trial (catalogue_in keys.now words.now) ahead ends }
+#[tactic(auto, unfolding(catalogue::specs::Steps::Trial::see_trial, catalogue::specs::Steps::Trial::ends_fit))]
+pub fn see_trial(lent: Lent, ahead: Ahead, ends: Ends) -> BothSeen
+    ensures { result ≡ see_trial (held lent.entry) ahead ends }
 {
     if ahead.front <= ahead.back {
         if ahead.back <= 256 {
-            return see_both(keys, words, ends.u, ends.v);
+            return see_both(lent, ends.u, ends.v);
         }
         return BothSeen::Torn;
     }

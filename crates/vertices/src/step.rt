@@ -1,55 +1,46 @@
 // One step of AddV or RemV.
 ghost use Rattle.std.specs.Prelude.{◌≡◌};
-ghost use Rattle.catalogue.specs.Lent.{Sized, catalogue_in};
 ghost use Rattle.catalogue.specs.Steps.Vertices.{start_again, step_vertex};
+ghost use Rattle.memory.specs.Memories.{held};
 
 use crate::look::look_at_vertex;
 use crate::settle::settle_vertex;
-use catalogue::links::VertexLink;
+use catalogue::links::{Link, PLAIN};
 use catalogue::steps::{Decision, VertexSeen};
 use catalogue::writes::Write;
 use looks::decisions::go_to;
 use looks::places::vertex_place;
+use memory::Lent;
 use memory::reads::vertex_link;
 
 // p is the head again, and c its next.
-fn start_again(keys: &[i32], words: &[u32], code: u32, k: i32) -> Decision
-    requires { Sized keys.now words.now }
-    ensures { result ≡ start_again (catalogue_in keys.now words.now) code k }
+#[tactic(auto, unfolding(catalogue::specs::Steps::Vertices::start_again))]
+fn start_again(lent: Lent, code: u32, k: i32) -> Decision
+    ensures { result ≡ start_again (held lent.entry) code k }
 {
-    let VertexLink::At { next, tag: _ } = vertex_link(words, 0) else {
+    let Some(Link { next, .. }) = vertex_link(lent.words, 0) else {
         return Decision::Torn;
     };
-    let place = vertex_place(code, k, 0, next);
-    go_to(place)
+    go_to(vertex_place(code, k, 0, next))
 }
 
 // One step of AddV (code 1) or RemV (code 2).
-pub fn step_vertex(keys: &[i32], words: &[u32], code: u32, k: i32, p: u8, c: u8) -> Decision
-    requires { Sized keys.now words.now }
-    ensures { result ≡ step_vertex (catalogue_in keys.now words.now) code k p c }
+#[tactic(auto, unfolding(catalogue::specs::Steps::Vertices::step_vertex))]
+pub fn step_vertex(lent: Lent, code: u32, k: i32, p: u8, c: u8) -> Decision
+    ensures { result ≡ step_vertex (held lent.entry) code k p c }
 {
-    let seen = look_at_vertex(keys, words, k, p, c);
-    match seen {
+    match look_at_vertex(lent, k, p, c) {
         VertexSeen::Torn => Decision::Torn,
-        VertexSeen::Again => start_again(keys, words, code, k),
-        VertexSeen::Unlinks { next } => {
-            let place = vertex_place(code, k, p, next);
-            Decision::Going {
-                next: place,
-                write: Write::VertexLink {
-                    vertex: p,
-                    next,
-                    tag: 0,
-                },
-            }
-        }
-        VertexSeen::Onward { next } => {
-            let place = vertex_place(code, k, c, next);
-            go_to(place)
-        }
-        VertexSeen::Settles { next, equal } => settle_vertex(
-            keys, words, code, k, p, c, next, equal,
-        ),
+        VertexSeen::Again => start_again(lent, code, k),
+        VertexSeen::Unlinks { next } => Decision::Going {
+            next: vertex_place(code, k, p, next),
+            write: Write::VertexLink {
+                vertex: p,
+                next,
+                tag: PLAIN,
+            },
+        },
+        VertexSeen::Onward { next } => go_to(vertex_place(code, k, c, next)),
+        VertexSeen::Settles { next, equal } => settle_vertex(lent, code, k, p, c, next, equal),
     }
 }

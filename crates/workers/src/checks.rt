@@ -7,24 +7,13 @@ ghost use Rattle.catalogue.specs.Calls.{worker_fits};
 pub fn one_to(most: u32, n: u32) -> bool
     ensures { result ≡ one_to most n }
 {
-    if 1 <= n {
-        if n <= most {
-            return true;
-        }
-        return false;
-    }
-    false
+    1 <= n && n <= most
 }
 
 // 21: the count first, then the worker's number.
+#[tactic(auto, unfolding(catalogue::specs::Calls::worker_fits, catalogue::specs::Calls::count_fits))]
 pub fn worker_fits(count: u32, worker: u32) -> bool
     ensures { result ≡ worker_fits count worker }
 {
-    if one_to(8, count) {
-        if worker < count {
-            return true;
-        }
-        return false;
-    }
-    false
+    one_to(8, count) && worker < count
 }

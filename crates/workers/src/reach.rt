@@ -23,18 +23,11 @@ pub fn meet(reach: Reach, n: u8) -> Reach
     requires n_value { has reach.met n ≡ false }
     ensures { result ≡ meet reach n }
 {
-    let back = reach.back;
-    let at = back as usize;
-    let before = reach.met;
-    let met = with_met(before, n);
-    let mut queue = reach.queue;
-    queue[at] = n;
-    Reach {
-        met,
-        queue,
-        front: reach.front,
-        back: back + 1,
-    }
+    let mut next = reach;
+    next.met = with_met(reach.met, n);
+    next.queue[reach.back as usize] = n;
+    next.back += 1;
+    next
 }
 
 // The front of the queue is taken.
@@ -42,13 +35,9 @@ pub fn take_one(reach: Reach) -> Reach
     requires { reach.front < 256 }
     ensures { result ≡ take_one reach }
 {
-    let met = reach.met;
-    let queue = reach.queue;
     Reach {
-        met,
-        queue,
         front: reach.front + 1,
-        back: reach.back,
+        ..reach
     }
 }
 
@@ -56,11 +45,7 @@ pub fn take_one(reach: Reach) -> Reach
 fn front_of(reach: Reach) -> u8
     ensures { result ≡ (ahead reach).x }
 {
-    let at = reach.front as usize;
-    if at < 256 {
-        return reach.queue[at];
-    }
-    0
+    reach.queue.get(reach.front as usize).copied().unwrap_or(0)
 }
 
 // What a step of a trial reads of its reach.
@@ -68,10 +53,9 @@ pub fn ahead(reach: Reach) -> Ahead
     ensures { result ≡ ahead reach }
 {
     let met = reach.met;
-    let x = front_of(reach);
     Ahead {
         met,
-        x,
+        x: front_of(reach),
         front: reach.front,
         back: reach.back,
     }

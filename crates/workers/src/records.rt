@@ -9,8 +9,10 @@ use catalogue::workers::{Place, Worker};
 pub fn bare(place: Place) -> Worker
     ensures { result ≡ bare place }
 {
-    let reach = no_reach();
-    Worker { place, reach }
+    Worker {
+        place,
+        reach: no_reach(),
+    }
 }
 
 pub fn idle() -> Worker
@@ -23,17 +25,17 @@ pub fn idle() -> Worker
 pub fn begun(place: Place, v: u8) -> Worker
     ensures { result ≡ begun place v }
 {
-    let before = no_reach();
-    let reach = meet(before, v);
-    Worker { place, reach }
+    Worker {
+        place,
+        reach: meet(no_reach(), v),
+    }
 }
 
 // The record at another place of the same trial.
 pub fn kept(w: Worker, place: Place) -> Worker
     ensures { result ≡ kept w place }
 {
-    let reach = w.reach;
-    Worker { place, reach }
+    Worker { place, ..w }
 }
 
 // The same with n met and last in the queue; the step has tested that there is room and that n is not met.
@@ -42,9 +44,10 @@ pub fn queued(w: Worker, place: Place, n: u8) -> Worker
     requires n_value { has w.reach.met n ≡ false }
     ensures { result ≡ queued w place n }
 {
-    let before = w.reach;
-    let reach = meet(before, n);
-    Worker { place, reach }
+    Worker {
+        place,
+        reach: meet(w.reach, n),
+    }
 }
 
 // The same with the front of the queue taken.
@@ -52,7 +55,8 @@ pub fn taken(w: Worker, place: Place) -> Worker
     requires { w.reach.front < 256 }
     ensures { result ≡ taken w place }
 {
-    let before = w.reach;
-    let reach = take_one(before);
-    Worker { place, reach }
+    Worker {
+        place,
+        reach: take_one(w.reach),
+    }
 }

@@ -1,23 +1,13 @@
 // What a place says of the request that it belongs to.
 ghost use Rattle.std.specs.Prelude.{◌≡◌};
-ghost use Rattle.catalogue.specs.Workers.{asks_pair, busy_at, request_of};
+ghost use Rattle.catalogue.specs.Workers.{busy_at, request_of};
 
-use catalogue::workers::{Ends, Pair, Place, Request};
+use catalogue::workers::{Pair, Place, Request};
 
 pub fn busy_at(place: Place) -> bool
     ensures { result ≡ busy_at place }
 {
-    match place {
-        Place::Idle => false,
-        _ => true,
-    }
-}
-
-fn of_ends(code: u32, ends: Ends) -> Request
-    ensures { result ≡ asks_pair code ends.pair }
-{
-    let pair = ends.pair;
-    Request { code, pair }
+    !matches!(place, Place::Idle)
 }
 
 // Codes 1 to 3 have no second key.
@@ -41,16 +31,22 @@ pub fn request_of(place: Place) -> Request
             code: 3,
             pair: Pair { k, l: 0 },
         },
-        Place::AddEFindU { pair, .. } => Request { code: 4, pair },
-        Place::RemEFindU { pair, .. } => Request { code: 5, pair },
-        Place::ConEFindU { pair, .. } => Request { code: 6, pair },
-        Place::AddEFindV { pair, .. } => Request { code: 4, pair },
-        Place::RemEFindV { pair, .. } => Request { code: 5, pair },
-        Place::ConEFindV { pair, .. } => Request { code: 6, pair },
-        Place::AddE { ends, .. } => of_ends(4, ends),
-        Place::RemE { ends, .. } => of_ends(5, ends),
-        Place::ConE { ends, .. } => of_ends(6, ends),
-        Place::Trial { ends, .. } => of_ends(4, ends),
-        Place::TrialOpen { ends, .. } => of_ends(4, ends),
+        Place::AddEFindU { pair, .. } | Place::AddEFindV { pair, .. } => Request { code: 4, pair },
+        Place::RemEFindU { pair, .. } | Place::RemEFindV { pair, .. } => Request { code: 5, pair },
+        Place::ConEFindU { pair, .. } | Place::ConEFindV { pair, .. } => Request { code: 6, pair },
+        Place::AddE { ends, .. } | Place::Trial { ends, .. } | Place::TrialOpen { ends, .. } => {
+            Request {
+                code: 4,
+                pair: ends.pair,
+            }
+        }
+        Place::RemE { ends, .. } => Request {
+            code: 5,
+            pair: ends.pair,
+        },
+        Place::ConE { ends, .. } => Request {
+            code: 6,
+            pair: ends.pair,
+        },
     }
 }

@@ -24,7 +24,8 @@ pub fn put(t: Table, n: usize, w: Worker) -> Table
 pub fn idle_table(count: u32) -> Table
     ensures { result ≡ idle_table count }
 {
-    let w = idle();
-    let workers = [w; 8];
-    Table { count, workers }
+    Table {
+        count,
+        workers: [idle(); 8],
+    }
 }

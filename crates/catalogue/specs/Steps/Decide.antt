@@ -1,4 +1,5 @@
 -- Document 01, "The steps": one step of a worker by its place; what the record is after it, and what is answered.
+use Rattle.std.specs.Prelude.{Result, Ok, Err}
 use Rattle.catalogue.specs.Tests.{pick}
 use Rattle.catalogue.specs.Catalogue.{Catalogue}
 use Rattle.catalogue.specs.Workers.{idle, bare, begun, kept, queued, taken, met_count, request_of, ahead}
@@ -76,15 +77,15 @@ abbrev pub going : Worker → Answer
 going after = answer.Going (met_count after.reach.met)
 
 -- The answer: a reply, or going on.
-abbrev pub answer_of : Decision → Worker → Answer
-answer_of Torn after = answer.Refused refusal.Torn
-answer_of Code after = answer.Refused refusal.Code
-answer_of (Going next write) after = going after
-answer_of (Begins next write v) after = going after
-answer_of (Keeps next) after = going after
-answer_of (Meets next y) after = going after
-answer_of (Takes next) after = going after
-answer_of (Reply number write) after = answer.Reply number
+abbrev pub answer_of : Decision → Worker → Result Answer Refusal
+answer_of Torn after = Err refusal.Torn
+answer_of Code after = Err refusal.Code
+answer_of (Going next write) after = Ok (going after)
+answer_of (Begins next write v) after = Ok (going after)
+answer_of (Keeps next) after = Ok (going after)
+answer_of (Meets next y) after = Ok (going after)
+answer_of (Takes next) after = Ok (going after)
+answer_of (Reply number write) after = Ok (answer.Reply number)
 
 -- One step of one record.
 abbrev pub stepped : Worker → Decision → Stepped

@@ -1,14 +1,14 @@
 -- Document 01, "The steps", the paragraph on AddE and RemE, with its cases (a) to (f).
-use Rattle.std.specs.Prelude.{ℕ, Bool, true, false, ℤ, eqb, ltb}
+use Rattle.std.specs.Prelude.{ℕ, Bool, true, false, ℤ, eqb, ltb, Option}
 use Rattle.std.specs.Int.Signed.{lt_z}
 use Rattle.catalogue.specs.Tests.{pick, eq_z}
 use Rattle.catalogue.specs.Numbers.{edge_pool, edge_tail, most_edges, plain, marked, transit, added, room}
-use Rattle.catalogue.specs.Catalogue.{Catalogue, vertex_link, first_link, edge_key, edge_link, edge_target, at_edge, at_target, at_mark}
+use Rattle.catalogue.specs.Catalogue.{Catalogue, vertex_link, first_link, edge_key, edge_link, edge_target, at_link, at_target, at_mark}
 use Rattle.catalogue.specs.Steps.Places.{edge_place}
 use Rattle.catalogue.specs.Steps.Both.{see_both, at_both}
 use Rattle.catalogue.specs.declared.links.Room.{Room}
 use Rattle.catalogue.specs.declared.links.Room.TheVariants as room
-use Rattle.catalogue.specs.declared.links.EdgeLink.{EdgeLink}
+use Rattle.catalogue.specs.declared.links.Link.{Link}
 use Rattle.catalogue.specs.declared.workers.Ends.{Ends}
 use Rattle.catalogue.specs.declared.workers.Prev.{Prev}
 use Rattle.catalogue.specs.declared.workers.Prev.TheVariants.{First, Edge}
@@ -22,7 +22,7 @@ use Rattle.catalogue.specs.declared.steps.Decision.{Decision}
 use Rattle.catalogue.specs.declared.steps.Decision.TheVariants.{Torn, Code, Going, Begins, Reply}
 
 -- p's link: the first-edge link of u, or the link of an edge node.
-abbrev pub link_behind : Catalogue → ℕ → Prev → EdgeLink
+abbrev pub link_behind : Catalogue → ℕ → Prev → Option (Link ℕ)
 link_behind C u First = first_link C u
 link_behind C u (Edge p) = edge_link C p
 
@@ -39,7 +39,7 @@ see_key C l c kept next tag =
 unfoldable pub see_edge : Catalogue → ℤ → ℕ → ℕ → EdgeSeen
 see_edge C l c kept =
     pick (eqb c edge_tail) (see_key C l c kept edge_tail plain)
-    (at_edge (edge_link C c) seen.Torn (λ next tag.
+    (at_link (edge_link C c) seen.Torn (λ next tag.
     pick (eqb tag marked) (seen.Unlinks kept next)
     (pick (eqb tag added)
     (at_target (edge_target C c) seen.Torn (λ y.
@@ -49,7 +49,7 @@ see_edge C l c kept =
 -- (b): an edge p with its mark, or a p that leads elsewhere. c is looked at only for an unmarked p.
 unfoldable pub see_behind : Catalogue → ℤ → ℕ → Prev → ℕ → EdgeSeen
 see_behind C l u p c =
-    at_edge (link_behind C u p) seen.Torn (λ to tag.
+    at_link (link_behind C u p) seen.Torn (λ to tag.
     pick (eqb tag marked) seen.Again
     (pick (ltb c edge_pool) (pick (eqb to c) (see_edge C l c tag) seen.Again) seen.Torn))
 
@@ -90,7 +90,7 @@ settle_edge C code ends p c at =
 
 -- (b) Starting again: at the first-edge link of u, and the node that it leads to.
 unfoldable pub restart : Catalogue → ℕ → Ends → Decision
-restart C code ends = at_edge (first_link C ends.u) Torn (λ first tag. Going (edge_place code ends First first) write.Nothing)
+restart C code ends = at_link (first_link C ends.u) Torn (λ first tag. Going (edge_place code ends First first) write.Nothing)
 
 -- What follows from what was seen.
 abbrev pub decide_edge : Catalogue → ℕ → Ends → Prev → ℕ → EdgeSeen → Decision

@@ -3,7 +3,7 @@ use Rattle.std.specs.Prelude.{ℕ, ℤ, eqb}
 use Rattle.std.specs.Int.Signed.{lt_z}
 use Rattle.catalogue.specs.Tests.{pick, eq_z}
 use Rattle.catalogue.specs.Numbers.{head}
-use Rattle.catalogue.specs.Catalogue.{Catalogue, vertex_key, vertex_link, first_link, at_vertex, at_edge, at_mark}
+use Rattle.catalogue.specs.Catalogue.{Catalogue, vertex_key, vertex_link, first_link, at_link, at_mark}
 use Rattle.catalogue.specs.Steps.Places.{find_u_place, find_v_place, edges_place}
 use Rattle.catalogue.specs.declared.workers.Pair.{Pair}
 use Rattle.catalogue.specs.declared.workers.Ends.{Ends}
@@ -18,7 +18,7 @@ use Rattle.catalogue.specs.declared.steps.Decision.TheVariants.{Torn, Going, Rep
 -- c's link is read only where the key is lower or equal.
 unfoldable pub look_for : Catalogue → ℤ → ℕ → VertexFound
 look_for C k c =
-    pick (lt_z (vertex_key C c) k) (at_vertex (vertex_link C c) found.Torn (λ next tag. found.Onward next))
+    pick (lt_z (vertex_key C c) k) (at_link (vertex_link C c) found.Torn (λ next tag. found.Onward next))
     (pick (eq_z (vertex_key C c) k) (at_mark (vertex_link C c) found.Torn found.Missing found.Found) found.Missing)
 
 abbrev pub decide_contains : ℤ → VertexFound → Decision
@@ -36,7 +36,7 @@ not_found code = pick (eqb code 6) 8 3
 
 -- The step that finds u goes back to the head's next by itself.
 unfoldable pub found_u : Catalogue → ℕ → Pair → ℕ → Decision
-found_u C code pair u = at_vertex (vertex_link C head) Torn (λ first tag. Going (find_v_place code pair u first) Nothing)
+found_u C code pair u = at_link (vertex_link C head) Torn (λ first tag. Going (find_v_place code pair u first) Nothing)
 
 abbrev pub decide_find_u : Catalogue → ℕ → Pair → ℕ → VertexFound → Decision
 decide_find_u C code pair c found.Torn = Torn
@@ -49,7 +49,7 @@ step_find_u C code pair c = decide_find_u C code pair c (look_for C pair.k c)
 
 -- The step that finds v reads u's first-edge link, and c is the node that it leads to.
 unfoldable pub found_v : Catalogue → ℕ → Ends → Decision
-found_v C code ends = at_edge (first_link C ends.u) Torn (λ first tag. Going (edges_place code ends first) Nothing)
+found_v C code ends = at_link (first_link C ends.u) Torn (λ first tag. Going (edges_place code ends first) Nothing)
 
 abbrev pub ends_of : Pair → ℕ → ℕ → Ends
 ends_of pair u v = record { pair = pair; u = u; v = v }

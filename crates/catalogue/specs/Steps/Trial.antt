@@ -2,7 +2,7 @@
 use Rattle.std.specs.Prelude.{ℕ, Bool, false, eqb, leb}
 use Rattle.catalogue.specs.Tests.{pick}
 use Rattle.catalogue.specs.Numbers.{edge_tail, marked, added}
-use Rattle.catalogue.specs.Catalogue.{Catalogue, vertex_link, first_link, edge_link, edge_target, at_edge, at_target, at_mark}
+use Rattle.catalogue.specs.Catalogue.{Catalogue, vertex_link, first_link, edge_link, edge_target, at_link, at_target, at_mark}
 use Rattle.catalogue.specs.Workers.{has}
 use Rattle.catalogue.specs.Steps.Both.{see_both, at_both}
 use Rattle.catalogue.specs.declared.workers.Ends.{Ends}
@@ -21,7 +21,7 @@ ends_fit front back = pick (leb front back) (leb back 256) false
 
 -- The own edge gets another tag, its link whole and its node kept, and the trial ends with a reply.
 unfoldable pub end_trial : Catalogue → ℕ → ℕ → ℕ → Decision
-end_trial C e tag reply = at_edge (edge_link C e) Torn (λ next old. Reply reply (EdgeLink e next tag))
+end_trial C e tag reply = at_link (edge_link C e) Torn (λ next old. Reply reply (EdgeLink e next tag))
 
 -- (b) An edge that is not MARKED is crossed if its target is unmarked and unmet; there is room for 256 in the queue.
 unfoldable pub cross : Catalogue → Ahead → ℕ → Place → Decision
@@ -36,7 +36,7 @@ passed_or tag past over = pick (eqb tag marked) past over
 -- (b) The edge c of the open vertex x is passed, or leads to its target.
 unfoldable pub pass_edge : Catalogue → Ahead → Ends → ℕ → ℕ → ℕ → Decision
 pass_edge C a ends e x c =
-    at_edge (edge_link C c) Torn (λ next tag.
+    at_link (edge_link C c) Torn (λ next tag.
     passed_or tag (Keeps (TrialOpen ends e x next))
     (at_target (edge_target C c) Torn (λ y. cross C a y (TrialOpen ends e x next))))
 
@@ -51,7 +51,7 @@ unfoldable pub take_front : Catalogue → Ends → ℕ → ℕ → Decision
 take_front C ends e x =
     pick (eqb x ends.u) (end_trial C e marked 6)
     (at_mark (vertex_link C x) Torn (Takes (Trial ends e))
-    (at_edge (first_link C x) Torn (λ c tag. Takes (TrialOpen ends e x c))))
+    (at_link (first_link C x) Torn (λ c tag. Takes (TrialOpen ends e x c))))
 
 -- (c), (d) No vertex is open; x stands at the front of the queue.
 unfoldable pub step_shut : Catalogue → Ahead → Ends → ℕ → Decision

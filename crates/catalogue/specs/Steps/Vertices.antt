@@ -3,7 +3,7 @@ use Rattle.std.specs.Prelude.{ℕ, Bool, true, false, ℤ, eqb}
 use Rattle.std.specs.Int.Signed.{lt_z}
 use Rattle.catalogue.specs.Tests.{pick, eq_z}
 use Rattle.catalogue.specs.Numbers.{head, tail, plain, marked, most_vertices, room}
-use Rattle.catalogue.specs.Catalogue.{Catalogue, vertex_key, vertex_link, at_vertex}
+use Rattle.catalogue.specs.Catalogue.{Catalogue, vertex_key, vertex_link, at_link}
 use Rattle.catalogue.specs.Steps.Places.{vertex_place}
 use Rattle.catalogue.specs.declared.links.Room.{Room}
 use Rattle.catalogue.specs.declared.links.Room.TheVariants as room
@@ -16,7 +16,7 @@ use Rattle.catalogue.specs.declared.steps.Decision.TheVariants.{Torn, Code, Goin
 -- At c, which p leads to: c's mark, then c's key.
 unfoldable pub see_vertex : Catalogue → ℤ → ℕ → VertexSeen
 see_vertex C k c =
-    at_vertex (vertex_link C c) seen.Torn (λ next tag.
+    at_link (vertex_link C c) seen.Torn (λ next tag.
     pick (eqb tag marked) (seen.Unlinks next)
     (pick (lt_z (vertex_key C c) k) (seen.Onward next) (pick (eq_z (vertex_key C c) k) (seen.Settles next true) (seen.Settles next false))))
 
@@ -24,7 +24,7 @@ see_vertex C k c =
 unfoldable pub look_at_vertex : Catalogue → ℤ → ℕ → ℕ → VertexSeen
 look_at_vertex C k p c =
     pick (eqb p tail) seen.Torn
-    (at_vertex (vertex_link C p) seen.Torn (λ to tag.
+    (at_link (vertex_link C p) seen.Torn (λ to tag.
     pick (eqb to c) (pick (eqb tag plain) (see_vertex C k c) seen.Again) seen.Again))
 
 -- AddV with no such key: the next vertex of the pool, between p and c; or no room.
@@ -47,7 +47,7 @@ settle_vertex C code k p c next equal =
 
 -- Starting again: p is the head and c its next.
 unfoldable pub start_again : Catalogue → ℕ → ℤ → Decision
-start_again C code k = at_vertex (vertex_link C head) Torn (λ first tag. Going (vertex_place code k head first) Nothing)
+start_again C code k = at_link (vertex_link C head) Torn (λ first tag. Going (vertex_place code k head first) Nothing)
 
 -- What follows from what was seen.
 abbrev pub decide_vertex : Catalogue → ℕ → ℤ → ℕ → ℕ → VertexSeen → Decision

@@ -19,7 +19,7 @@ use Rattle.catalogue.specs.declared.workers.Prev.TheVariants.{First, Edge}
 use Rattle.catalogue.specs.declared.steps.Landed.{Landed}
 use Rattle.catalogue.specs.declared.steps.EdgeSeen.{EdgeSeen}
 use Rattle.catalogue.specs.declared.steps.EdgeSeen.TheVariants as seen
-use Rattle.lent.proofs.Twins.{Twin, twin, Same, through, pick_twin, edge_twin, both_twin}
+use Rattle.lent.proofs.Twins.{Twin, twin, Same, through, pick_twin, link_twin, both_twin}
 use Rattle.memory.proofs.Agrees.{Agree}
 use Rattle.lent.proofs.Agrees.{first_link_same, edge_key_same, edge_link_same}
 use Rattle.lent.proofs.Reading.{mark_read, first_read, edge_read, target_read}
@@ -61,7 +61,7 @@ module _ {C D : Catalogue} (a : Agree C D) where
     unfolding look_at_edge see_behind
     look_twin p c =
         both_seen (twin _ tt) (twin _ tt)
-        (edge_twin (link_behind C ends.u p) (link_behind D ends.u p) (behind_same ends.u h.0 p) (twin _ tt)
+        (link_twin (link_behind C ends.u p) (link_behind D ends.u p) (behind_same ends.u h.0 p) (twin _ tt)
         (λ to tag e. pick_twin (eqb tag marked) (λ e. twin _ tt)
         (λ e. pick_twin (ltb c edge_pool)
         (λ b. pick_twin (eqb to c) (λ e. see_edge_twin ends.pair.l c (ltb-true c edge_pool b) tag) (λ e. twin _ tt))

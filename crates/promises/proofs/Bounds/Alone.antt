@@ -7,6 +7,7 @@ use mathlib.Core.Path.{◌≡◌, refl, sym, ap, ◌∙◌, subst}
 use native.Mathlib.Omega.{arith}
 use borrow.Author.Tests.{eq-eqb}
 use lib.ListN.{length, replicate}
+use Rattle.std.proofs.Common.{Ok}
 use Rattle.catalogue.specs.Calls.{step}
 use Rattle.catalogue.specs.Live.{edges_of}
 use Rattle.catalogue.specs.Choosing.{steps, Moment, choose, after}
@@ -20,7 +21,7 @@ use Rattle.row.specs.Machine.World
 use Rattle.row.specs.Machine.World.{World, Hunt, hunt_from}
 use Rattle.row.specs.Machine.Moves.{move}
 use Rattle.row.specs.Machine.Choices.{resting, Conf, act}
-use Rattle.row.proofs.Steps.Spots.{Ok}
+use Rattle.row.proofs.Steps.Spots as spots
 use Rattle.promises.specs.Moments.{at}
 use Rattle.promises.specs.Bounds.{step_replies, Unanswered, also, taken_by, edges_taken, TrialAlone}
 use Rattle.promises.proofs.Showing.Shows.{Stands, Hunted, at_trial}
@@ -61,7 +62,7 @@ module _ (workers : ℕ) (most : workers ≤ 8) (w : ℕ) (low : w < workers) (e
         let s : Stands W.v.used (worker_at m.table w) (at_trial ends e t.hunt) = rw t.stands at (t.held.shown w (omega arith)).stands in
         s.1
 
-    ok : Ok W (at_trial ends e t.hunt)
+    ok : spots.Ok W (at_trial ends e t.hunt)
     ok = rw t.stands at (t.held.fine.ok w)
 
     acts : Carried workers t.conf w (step m.catalogue m.table w)
@@ -97,7 +98,7 @@ module _ (workers : ℕ) (most : workers ≤ 8) (w : ℕ) (low : w < workers) (e
         let s = hunted.searched.met_series x (hunted.searched.taken_met x p) in
         ap (λ (es : List ℕ). 2 + length es) (sym (edges_walk m.catalogue W t.held.shows t.held.fine.good x s.low s.high)))
 
-    replied_one : (step m.catalogue m.table w).answer ≡ Reply 1 → suc i ≡ 2 * length (taken_by m w) + edges_taken m w + 1
+    replied_one : (step m.catalogue m.table w).answer ≡ Ok (Reply 1) → suc i ≡ 2 * length (taken_by m w) + edges_taken m w + 1
     replied_one q =
         let c = ends_closed W ends.pair.k ends.pair.l ends.u ends.v e t.hunt (answers ∙ (sym acts.same_reply ∙ ap replied q)) in
         let spent : i + 0 ≡ weigh (cost W) t.hunt.taken 256 = rw c at t.tally.spent in
@@ -107,7 +108,7 @@ module _ (workers : ℕ) (most : workers ≤ 8) (w : ℕ) (low : w < workers) (e
 
   counted : (n i : ℕ) (m : Moment) → Trying i m → Unanswered w m (replicate n (steps w))
       → (let last : Moment = after m (replicate n (steps w)) in
-      (step last.catalogue last.table w).answer ≡ Reply 1 → suc (i + n) ≡ 2 * length (taken_by last w) + edges_taken last w + 1)
+      (step last.catalogue last.table w).answer ≡ Ok (Reply 1) → suc (i + n) ≡ 2 * length (taken_by last w) + edges_taken last w + 1)
   unfolding after
   counted zero i m t u = λ r. (let same : suc (i + 0) ≡ suc i = omega arith in same ∙ replied_one i m t r)
   counted (suc n) i m t (also q u) = λ r.

@@ -5,9 +5,11 @@ use mathlib.Core.Option.{none}
 use mathlib.Core.Path.{◌≡◌, refl, sym, ◌∙◌}
 use native.Mathlib.Omega.{arith}
 use borrow.Author.Tests.{le-leb, lt-ltb}
+use Rattle.std.proofs.Common.{Result, Ok, Err}
 use Rattle.catalogue.specs.Calls.{After, count_fits, worker_fits, step}
 use Rattle.catalogue.specs.Choosing.{Moment}
 use Rattle.catalogue.specs.Workers.{busy}
+use Rattle.catalogue.specs.declared.answers.Refusal.{Refusal}
 use Rattle.catalogue.specs.declared.answers.Answer.{Answer}
 use Rattle.catalogue.specs.declared.answers.Answer.TheVariants as answer
 use Rattle.laws.proofs.Picks.{clash}
@@ -17,10 +19,10 @@ use Rattle.promises.specs.Bounds.{is_reply}
 use Rattle.promises.proofs.Runs.Held.{Held}
 use Rattle.promises.proofs.Runs.Stepping.{replied, Carried, carried}
 
-no_reply : (a : Answer) → is_reply a ≡ false → replied a ≡ none
-no_reply (answer.Going met) e = refl
-no_reply (answer.Reply n) e = clash (cc)
-no_reply (answer.Refused r) e = refl
+no_reply : (a : Result Answer Refusal) → is_reply a ≡ false → replied a ≡ none
+no_reply (Ok (answer.Going met)) e = refl
+no_reply (Ok (answer.Reply n)) e = clash (cc)
+no_reply (Err r) e = refl
 
 -- where it is not replied to, the machine says nothing
 pub silent : {workers : ℕ} {X : Conf} {v : ℕ} {a : After} → Carried workers X v a → is_reply a.answer ≡ false → (move X.world (X.at v)).answer ≡ none

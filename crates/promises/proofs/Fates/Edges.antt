@@ -25,7 +25,7 @@ use Rattle.catalogue.specs.declared.workers.Place.{Place}
 use Rattle.catalogue.specs.declared.workers.Place.TheVariants.{AddE, RemE, ConE}
 use Rattle.catalogue.specs.declared.workers.Prev.{Prev}
 use Rattle.catalogue.specs.declared.writes.Write.TheVariants.{Nothing}
-use Rattle.laws.proofs.Picks.{pick_both, edge_both, target_both}
+use Rattle.laws.proofs.Picks.{pick_both, link_both, target_both}
 use Rattle.promises.specs.Outside.{an_edge}
 use Rattle.promises.proofs.Showing.Pools.{room_both}
 use Rattle.promises.proofs.Fates.Told.{Fate, in_row, lacks, on_trial}
@@ -40,9 +40,9 @@ module _ (C : Catalogue) (a : Ahead) where
   contains_edge ends c =
       pick_both P (ltb c edge_pool) _ _
       (λ e. pick_both P (lt_z (edge_key C c) ends.pair.l) _ _
-      (λ e. edge_both P (edge_link C c) _ _ tt (λ next tag e. refl))
+      (λ e. link_both P (edge_link C c) _ _ tt (λ next tag e. refl))
       (λ e. pick_both P (eq_z (edge_key C c) ends.pair.l) _ _
-      (λ e. edge_both P (edge_link C c) _ _ tt (λ next tag e.
+      (λ e. link_both P (edge_link C c) _ _ tt (λ next tag e.
       pick_both P (eqb tag added) _ _
       (λ e. target_both P (edge_target C c) _ _ tt (λ y e. pick_both P (eqb y ends.v) _ _ (λ e. by (see_both C ends.u ends.v)) (λ e. eight)))
       (λ e. eight)))
@@ -62,7 +62,7 @@ module _ (C : Catalogue) (a : Ahead) where
 
   restarts_edge : (pl : Place) (code : ℕ) (ends : Ends) → F pl (restart C code ends)
   unfolding restart
-  restarts_edge pl code ends = edge_both (F pl) (first_link C ends.u) _ _ tt (λ first tag e. to_edge code ends _ first)
+  restarts_edge pl code ends = link_both (F pl) (first_link C ends.u) _ _ tt (λ first tag e. to_edge code ends _ first)
 
   module _ (ends : Ends) (p : Prev) (c : ℕ) where
     full_edge : (at : Landed) → look_at_edge C ends p c ≡ edge_seen.Settles at → at.equal ≡ false

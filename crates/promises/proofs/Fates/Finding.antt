@@ -15,7 +15,7 @@ use Rattle.catalogue.specs.declared.workers.Pair.{Pair}
 use Rattle.catalogue.specs.declared.workers.Place.{Place}
 use Rattle.catalogue.specs.declared.workers.Place.TheVariants.{ConV}
 use Rattle.catalogue.specs.declared.writes.Write.TheVariants.{Nothing}
-use Rattle.laws.proofs.Picks.{pick_both, vertex_both, edge_both}
+use Rattle.laws.proofs.Picks.{pick_both, link_both}
 use Rattle.promises.proofs.Fates.Told.{Fate, in_row}
 use Rattle.promises.proofs.Fates.Places.{to_u, to_v, to_edges}
 
@@ -45,7 +45,7 @@ module _ (C : Catalogue) (a : Ahead) where
       by : (z : VertexFound) → F pl (decide_find_u C code pair c z)
       by found.Torn = tt
       by (found.Onward next) = to_u code pair next
-      by found.Found = vertex_both (F pl) (vertex_link C head) _ _ tt (λ first tag e. to_v code pair c first)
+      by found.Found = link_both (F pl) (vertex_link C head) _ _ tt (λ first tag e. to_v code pair c first)
       by found.Missing = lost pl code
 
   pub finds_v : (pl : Place) (code : ℕ) (pair : Pair) (u c : ℕ) → F pl (step_find_v C code pair u c)
@@ -55,5 +55,5 @@ module _ (C : Catalogue) (a : Ahead) where
       by : (z : VertexFound) → F pl (decide_find_v C code pair u c z)
       by found.Torn = tt
       by (found.Onward next) = to_v code pair u next
-      by found.Found = edge_both (F pl) (first_link C u) _ _ tt (λ first tag e. to_edges code (ends_of pair u c) first)
+      by found.Found = link_both (F pl) (first_link C u) _ _ tt (λ first tag e. to_edges code (ends_of pair u c) first)
       by found.Missing = lost pl code

@@ -5,12 +5,11 @@ use mathlib.Core.Path.{◌≡◌, refl}
 use native.Mathlib.Omega.{arith}
 use lib.Dec.{T, eqb, leb, leb→le}
 use Rattle.catalogue.specs.Tests.{pick}
-use Rattle.catalogue.specs.Numbers.{edge_tail, marked, transit}
+use Rattle.catalogue.specs.Numbers.{edge_tail, marked, transit, some_link}
 use Rattle.catalogue.specs.Catalogue.{Catalogue, edge_link, edge_target}
 use Rattle.catalogue.specs.Live.{unmarked}
 use Rattle.catalogue.specs.Steps.Edges.{look_at_edge}
-use Rattle.catalogue.specs.declared.links.EdgeLink.TheVariants as edge
-use Rattle.catalogue.specs.declared.links.Target.TheVariants as target
+use Rattle.std.proofs.Common.{Some}
 use Rattle.catalogue.specs.declared.steps.Decision.{Decision}
 use Rattle.catalogue.specs.declared.steps.Decision.TheVariants.{Torn, Code, Going, Begins, Keeps, Meets, Takes, Reply}
 use Rattle.catalogue.specs.declared.steps.EdgeSeen.TheVariants as edge_seen
@@ -74,9 +73,9 @@ pub record Met (C : Catalogue) (back : ℕ) (pl next : Place) (y : ℕ) : Type 0
   pub tag : ℕ
   pub from : pl ≡ TrialOpen ends e x c
   pub to : next ≡ TrialOpen ends e x d
-  pub link : edge_link C c ≡ edge.At d tag
+  pub link : edge_link C c ≡ some_link d tag
   pub plain : tag ≡ marked → ⊥
-  pub leads : edge_target C c ≡ target.At y
+  pub leads : edge_target C c ≡ Some y
   pub source : unmarked C x ≡ true
   pub goal : unmarked C y ≡ true
   pub inner : c ≡ edge_tail → ⊥
@@ -111,7 +110,7 @@ pub record Six (C : Catalogue) (a : Ahead) (pl : Place) (write : Write) : Type 0
   pub old : ℕ
   pub is : pl ≡ Trial ends e
   pub writes : write ≡ EdgeLink e next marked
-  pub link : edge_link C e ≡ edge.At next old
+  pub link : edge_link C e ≡ some_link next old
   pub front_is : a.x ≡ ends.u
   pub some : a.front ≡ a.back → ⊥
 

@@ -4,14 +4,13 @@ use mathlib.Core.Bool.{true}
 use mathlib.Core.Path.{◌≡◌, refl}
 use borrow.Author.Tests.{eqb-true, eqb-false, leb-false}
 use lib.Dec.{eqb, leb}
-use Rattle.catalogue.specs.Numbers.{edge_tail, marked, added}
+use Rattle.catalogue.specs.Numbers.{edge_tail, marked, added, some_link}
 use Rattle.catalogue.specs.Catalogue.{Catalogue, vertex_link, first_link, edge_link, edge_target, at_mark}
 use Rattle.catalogue.specs.Live.{unmarked}
 use Rattle.catalogue.specs.Workers.{has}
 use Rattle.catalogue.specs.Steps.Both.{at_both}
 use Rattle.catalogue.specs.Steps.Trial.{end_trial, cross, pass_edge, step_open, take_front, step_shut, see_trial, trial_shut, trial_open}
-use Rattle.catalogue.specs.declared.links.EdgeLink.TheVariants as edge
-use Rattle.catalogue.specs.declared.links.VertexLink.TheVariants as vertex
+use Rattle.std.proofs.Common.{Some, None}
 use Rattle.catalogue.specs.declared.steps.BothSeen.{BothSeen}
 use Rattle.catalogue.specs.declared.steps.BothSeen.TheVariants as both
 use Rattle.catalogue.specs.declared.steps.Decision.{Decision}
@@ -21,17 +20,17 @@ use Rattle.catalogue.specs.declared.workers.Ends.{Ends}
 use Rattle.catalogue.specs.declared.workers.Place.{Place}
 use Rattle.catalogue.specs.declared.workers.Place.TheVariants.{Trial, TrialOpen}
 use Rattle.catalogue.specs.declared.writes.Write.TheVariants.{EdgeLink}
-use Rattle.laws.proofs.Picks.{pick_both, edge_both, target_both}
+use Rattle.laws.proofs.Picks.{pick_both, link_both, target_both}
 use Rattle.promises.proofs.Fates.Told.{Told, Fate, stays, closes, skips, opens, in_row, loops}
 
 module _ (C : Catalogue) (a : Ahead) where
   abbrev F : Place → Decision → Type 0
   F pl = Fate C a pl
 
-  ended : (pl : Place) (e tag r : ℕ) → ((next old : ℕ) → edge_link C e ≡ edge.At next old → Told C a pl r (EdgeLink e next tag))
+  ended : (pl : Place) (e tag r : ℕ) → ((next old : ℕ) → edge_link C e ≡ some_link next old → Told C a pl r (EdgeLink e next tag))
       → F pl (end_trial C e tag r)
   unfolding end_trial
-  ended pl e tag r f = edge_both (F pl) (edge_link C e) _ _ tt f
+  ended pl e tag r f = link_both (F pl) (edge_link C e) _ _ tt f
 
   withdrawn : (pl : Place) (e : ℕ) (z : BothSeen) (d : Decision) → F pl d → F pl (at_both z Torn (end_trial C e marked 3) d)
   withdrawn pl e both.Torn d f = tt
@@ -45,8 +44,8 @@ module _ (C : Catalogue) (a : Ahead) where
       by (vertex_link C y) refl
     where
       by : (z : _) → vertex_link C y ≡ z → P (at_mark z Torn dead live)
-      by vertex.Torn q = t
-      by (vertex.At next tag) q = pick_both P (eqb tag marked) dead live (λ e. f) (λ e. g (rw (q, e)))
+      by None q = t
+      by (Some l) q = pick_both P (eqb l.tag marked) dead live (λ e. f) (λ e. g (rw (q, e)))
 
   module _ (ends : Ends) (e : ℕ) where
     pub tries_shut : F (Trial ends e) (trial_shut C a ends e)
@@ -60,7 +59,7 @@ module _ (C : Catalogue) (a : Ahead) where
         (λ d. ended (Trial ends e) e marked 6 (λ next old q.
         loops refl (record { ends = ends; e = e; next = next; old = old; is = refl; writes = refl; link = q; front_is = eqb-true a.x ends.u d; some = some })))
         (λ d. mark_both P a.x _ _ tt (skips ends e refl refl some)
-        (λ m. edge_both P (first_link C a.x) _ _ tt (λ c tag q. opens ends e c refl refl some (eqb-false a.x ends.u d))))))
+        (λ m. link_both P (first_link C a.x) _ _ tt (λ c tag q. opens ends e c refl refl some (eqb-false a.x ends.u d))))))
       where
         P : Decision → Type 0
         P = F (Trial ends e)
@@ -71,7 +70,7 @@ module _ (C : Catalogue) (a : Ahead) where
         withdrawn (TrialOpen ends e y c) e (see_trial C a ends) _
         (mark_both P y _ _ tt shuts (λ source.
         pick_both P (eqb c edge_tail) _ _ (λ d. shuts) (λ d.
-        edge_both P (edge_link C c) _ _ tt (λ next tag q.
+        link_both P (edge_link C c) _ _ tt (λ next tag q.
         pick_both P (eqb tag marked) _ _ (λ b. on next) (λ b.
         target_both P (edge_target C c) _ _ tt (λ z g.
         mark_both P z _ _ tt (on next) (λ goal.

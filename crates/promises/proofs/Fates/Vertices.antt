@@ -13,7 +13,7 @@ use Rattle.catalogue.specs.declared.steps.VertexSeen.TheVariants as vertex_seen
 use Rattle.catalogue.specs.declared.workers.Ahead.{Ahead}
 use Rattle.catalogue.specs.declared.workers.Place.{Place}
 use Rattle.catalogue.specs.declared.workers.Place.TheVariants.{AddV, RemV}
-use Rattle.laws.proofs.Picks.{vertex_both}
+use Rattle.laws.proofs.Picks.{link_both}
 use Rattle.promises.specs.Outside.{a_vertex}
 use Rattle.promises.proofs.Showing.Pools.{room_both}
 use Rattle.promises.proofs.Fates.Told.{Fate, in_row, lacks}
@@ -26,7 +26,7 @@ module _ (C : Catalogue) (a : Ahead) where
   restarts : (pl : Place) (code : ℕ) (k : ℤ) → F pl (start_again C code k)
   unfolding start_again
   restarts pl code k =
-      vertex_both (F pl) (vertex_link C head) _ _ tt (λ first tag e. to_vertex code k head first)
+      link_both (F pl) (vertex_link C head) _ _ tt (λ first tag e. to_vertex code k head first)
 
   full_vertex : (k : ℤ) (p c next : ℕ) → look_at_vertex C k p c ≡ vertex_seen.Settles next false
       → F (AddV k p c) (new_vertex (room most_vertices 2 C.counts.vertices) k p c)

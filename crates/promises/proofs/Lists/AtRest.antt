@@ -9,10 +9,10 @@ use borrow.Author.Tests.{le-leb}
 use lib.Dec.{eqb}
 use lib.ListN.{length}
 use Rattle.catalogue.specs.Tests.{pick, every, member}
-use Rattle.catalogue.specs.Catalogue.{Catalogue, first_link, at_edge}
-use Rattle.catalogue.specs.Numbers.{plain}
-use Rattle.catalogue.specs.declared.links.EdgeLink.{EdgeLink}
-use Rattle.catalogue.specs.declared.links.EdgeLink.TheVariants as edge
+use Rattle.catalogue.specs.Catalogue.{Catalogue, first_link, at_link}
+use Rattle.catalogue.specs.Numbers.{plain, some_link}
+use Rattle.std.proofs.Common.{Option}
+use Rattle.catalogue.specs.declared.links.Link.{Link}
 use Rattle.catalogue.specs.Live.{vertices, edges_of, unmarked, live_vertices, live_edges_of, live_edges, gather, is_live}
 use Rattle.catalogue.specs.Soundness.{Asks, listing, sweep, tag_fits, vertex_sound, target_sound, edge_sound, edges_sound, sound}
 use Rattle.laws.proofs.Members.{All, all_each, all_every, all_gather}
@@ -80,7 +80,7 @@ module _ (C : Catalogue) (W : World) (s : Shows C W) (g : WGood W) where
         s.targets e i.low i.high,
       ) (target_is e i.low i.high)
 
-  whole : (l : EdgeLink) (next tag : ℕ) (b : Bool) → l ≡ edge.At next tag → b ≡ true → at_edge l false (λ x t. b) ≡ true
+  whole : (l : Option (Link ℕ)) (next tag : ℕ) (b : Bool) → l ≡ some_link next tag → b ≡ true → at_link l false (λ x t. b) ≡ true
   whole l next tag b q t = rw (q, t)
 
   its_edges : (asks : Asks) → (asks ≡ sweep → Untried W) → (x : ℕ) → Stands W.v x → edges_sound asks C x ≡ true

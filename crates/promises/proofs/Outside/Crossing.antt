@@ -2,13 +2,13 @@
 use Prim.Native.Nat.{ℕ, ◌≤◌, ◌<◌}
 use mathlib.Core.Bool.{true, false}
 use mathlib.Core.Path.{◌≡◌, refl, sym, ◌∙◌}
+use Rattle.catalogue.specs.Numbers.{some_link}
 use Rattle.catalogue.specs.Tests.{member}
 use Rattle.catalogue.specs.Catalogue.{edge_link}
 use Rattle.catalogue.specs.Live.{edges_of}
 use Rattle.catalogue.specs.Choosing.{Moment}
-use Rattle.catalogue.specs.declared.links.EdgeLink.TheVariants as edge
 use Rattle.catalogue.specs.declared.workers.Place.TheVariants.{TrialOpen}
-use Rattle.laws.proofs.Picks.{clash}
+use Rattle.laws.proofs.Picks.{clash, same_tag}
 use Rattle.row.specs.Lists.Edges.{Tag, marked, transit, added, is_marked, InList}
 use Rattle.row.specs.Machine.World.{World, Opened, closed, opened}
 use Rattle.row.specs.Machine.Choices.{Conf}
@@ -48,10 +48,10 @@ module _ (workers : ℕ) (m : Moment) (X : Conf) (h : Held workers m X) where
       let ok : Ok W (at_trial ends e z.hunt) = rw z.is at (h.fine.ok w) in
       record { series = rw o at z.keeps.open_series; listed = no_tail W.e x c (rw o at ok.2.place) n }
 
-  pub in_list : (x c : ℕ) → Open W x c → (next tag : ℕ) → edge_link m.catalogue c ≡ edge.At next tag → (tag ≡ 1 → ⊥)
+  pub in_list : (x c : ℕ) → Open W x c → (next tag : ℕ) → edge_link m.catalogue c ≡ some_link next tag → (tag ≡ 1 → ⊥)
       → member c (edges_of m.catalogue x) ≡ true
   in_list x c o next tag q n =
       let s = o.series in
       let i = o.listed in
-      let t : edge_tag_of (W.e.tag c) ≡ tag = (let z = h.shows.elinks c i.low i.high in cc) in
+      let t : edge_tag_of (W.e.tag c) ≡ tag = same_tag (sym (h.shows.elinks c i.low i.high) ∙ q) in
       meets_e m.catalogue W h.shows h.fine.good x s.low s.high c i (plain_tag (W.e.tag c) (λ z. n (sym t ∙ z)))

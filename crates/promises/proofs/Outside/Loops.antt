@@ -13,7 +13,7 @@ use Rattle.catalogue.specs.Workers.{worker_at, ahead}
 use Rattle.catalogue.specs.declared.workers.Place.TheVariants as place
 use Rattle.catalogue.specs.declared.writes.Write.{Write}
 use Rattle.catalogue.specs.declared.writes.Write.TheVariants.{EdgeLink}
-use Rattle.laws.proofs.Picks.{clash}
+use Rattle.laws.proofs.Picks.{clash, same_next}
 use Rattle.row.specs.Machine.Vertices
 use Rattle.row.specs.Lists.Edges.{marked, transit, retag}
 use Rattle.row.specs.Machine.World.{World, with_e, edges}
@@ -80,7 +80,7 @@ module _ (workers : ℕ) (m : Moment) (X : Conf) (h : Held workers m X) (most : 
   unchanged : live (left m w) ≡ live m.catalogue
   unchanged =
       let own = tried.1 in
-      let next : z.next ≡ W.e.next z.e = (let p = h.shows.elinks z.e own.low own.high in let q = z.link in cc) in
+      let next : z.next ≡ W.e.next z.e = same_next (sym z.link ∙ h.shows.elinks z.e own.low own.high) in
       rw (y.leaves ∙ ap (commit m.catalogue) z.writes, next) (dropped_live m.catalogue W h.shows h.fine.good z.e own.low own.high own.tried)
 
   source_key : vertex_key m.catalogue z.ends.u ≡ z.ends.pair.k

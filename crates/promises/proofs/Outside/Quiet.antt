@@ -7,12 +7,12 @@ use mathlib.Core.Logic.{inl, inr}
 use mathlib.Core.Path.{◌≡◌, refl, ap, sym, ◌∙◌, subst}
 use native.Mathlib.Omega.{arith}
 use lib.ListN.{length}
+use Rattle.catalogue.specs.Numbers.{some_link}
 use Rattle.catalogue.specs.Catalogue.{Catalogue, edge_link_in, edge_link}
 use Rattle.catalogue.specs.Live.{unmarked}
 use Rattle.catalogue.specs.Choosing.{Choice, Moment}
 use Rattle.catalogue.specs.Workers.{worker_at}
-use Rattle.catalogue.specs.declared.links.EdgeLink.TheVariants as edge
-use Rattle.laws.proofs.Picks.{clash}
+use Rattle.laws.proofs.Picks.{clash, same_tag}
 use Rattle.row.proofs.Base.{same?, lt_or}
 use Rattle.row.proofs.Tests.{not_true}
 use Rattle.row.specs.Lists.Edges.{Tag, marked, transit, added, is_marked}
@@ -35,7 +35,7 @@ use Rattle.promises.proofs.Outside.Calm.{Calm, calm_same, calm_on, act_calm}
 use Rattle.catalogue.specs.declared.workers.Ends.{Ends}
 
 -- the tail has no link
-no_link : (C : Catalogue) (e next tag : ℕ) → edge_link C e ≡ edge.At next tag → e ≡ 0 → ⊥
+no_link : (C : Catalogue) (e next tag : ℕ) → edge_link C e ≡ some_link next tag → e ≡ 0 → ⊥
 unfolding edge_link_in
 no_link C e next tag q z = clash (cc (rw z at q))
 
@@ -135,7 +135,7 @@ module _ (workers : ℕ) (choices : List Choice) (g : Given workers choices) (w 
       let p = open_spot workers (M n) (X n) h g.most w low ends e x f r.opened (no_link (M n).catalogue f s.next s.tag s.link) in
       let i = p.listed in
       let to_y : (W n).e.target f ≡ y = (let t = h.shows.targets f i.low i.high in let q = s.leads in cc) in
-      let tag : edge_tag_of ((W n).e.tag f) ≡ s.tag = (let t = h.shows.elinks f i.low i.high in let q = s.link in cc) in
+      let tag : edge_tag_of ((W n).e.tag f) ≡ s.tag = same_tag (sym (h.shows.elinks f i.low i.high) ∙ s.link) in
       let now : LiveE (W n) f = record {
         low = i.low;
         high = i.high;

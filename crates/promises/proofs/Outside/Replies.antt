@@ -4,6 +4,7 @@ use mathlib.Core.Bool.{true}
 use mathlib.Core.Path.{◌≡◌, refl, ap, sym, ◌∙◌}
 use native.Mathlib.Omega.{arith}
 use borrow.Author.Tests.{lt-ltb, le-leb}
+use Rattle.std.proofs.Common.{Ok}
 use Rattle.catalogue.specs.Catalogue.{Catalogue}
 use Rattle.catalogue.specs.Calls.{After, refuse, count_fits, worker_fits, perform, step}
 use Rattle.catalogue.specs.Workers.{worker_at, put, busy}
@@ -52,7 +53,7 @@ module _ (C : Catalogue) (t : Table) (n : ℕ) where
     pub decides : decide C (worker_at t n) ≡ Reply r write
     pub leaves : (step C t n).catalogue ≡ commit C write
 
-  pub replied_by : (r : ℕ) → (step C t n).answer ≡ answer.Reply r → Replied r
+  pub replied_by : (r : ℕ) → (step C t n).answer ≡ Ok (answer.Reply r) → Replied r
   replied_by r q =
       elim carried [
         | refused s e ↦ clash (cc (ap (λ (a : After). a.answer) e))
@@ -60,7 +61,7 @@ module _ (C : Catalogue) (t : Table) (n : ℕ) where
       ]
     where
       by : (d : Decision) → decide C (worker_at t n) ≡ d → (step C t n).catalogue ≡ commit C (write_of d)
-          → answer_of d (record_after (worker_at t n) d) ≡ answer.Reply r → Replied r
+          → answer_of d (record_after (worker_at t n) d) ≡ Ok (answer.Reply r) → Replied r
       by Torn e f a = clash (cc)
       by Code e f a = clash (cc)
       by (Going next write) e f a = clash (cc)
@@ -72,7 +73,7 @@ module _ (C : Catalogue) (t : Table) (n : ℕ) where
 
   -- a busy worker of the table replies what it decides
   pub replies : worker_fits t.count n ≡ true → busy t n ≡ true → (r : ℕ) (write : Write) → decide C (worker_at t n) ≡ Reply r write
-      → (step C t n).answer ≡ answer.Reply r
+      → (step C t n).answer ≡ Ok (answer.Reply r)
   unfolding step
   replies f b r write e = rw (f, b, e) refl
 

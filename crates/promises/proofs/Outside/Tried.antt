@@ -4,11 +4,12 @@ use Prim.Native.Nat.{ℕ, ◌≤◌, ◌<◌}
 use mathlib.Core.Logic.{inl, inr}
 use mathlib.Core.Path.{◌≡◌, refl, ap, sym, ◌∙◌, subst}
 use native.Mathlib.Omega.{arith}
+use Rattle.catalogue.specs.Numbers.{some_link}
 use Rattle.catalogue.specs.Catalogue.{Catalogue}
 use Rattle.catalogue.specs.Live.{edges_of}
 use Rattle.catalogue.specs.Choosing.{Moment}
-use Rattle.catalogue.specs.declared.links.EdgeLink.TheVariants as edge
 use Rattle.laws.proofs.Members.{all_of}
+use Rattle.laws.proofs.Picks.{same_tag}
 use Rattle.row.proofs.Base.{same?}
 use Rattle.row.specs.Lists.Edges.{InList}
 use Rattle.row.specs.Machine.World.{World, OnTrial}
@@ -45,7 +46,7 @@ module _ (workers : ℕ) (m : Moment) (X : Conf) (h : Held workers m X) where
             meets_e C W h.shows h.fine.good (W.e.owner e) d.source_low d.source_high e
             (record { low = i.low; high = i.high; own = refl }) (rw i.tried refl);
         next = W.e.next e;
-        link = h.shows.elinks e i.low i.high ∙ ap (λ t. edge.At (W.e.next e) (edge_tag_of t)) i.tried;
+        link = h.shows.elinks e i.low i.high ∙ ap (λ t. some_link (W.e.next e) (edge_tag_of t)) i.tried;
       }
 
   has_tag : (x e : ℕ) → TrialEdge C x e → OnTrial W e × (W.e.owner e ≡ x)
@@ -53,7 +54,7 @@ module _ (workers : ℕ) (m : Moment) (X : Conf) (h : Held workers m X) where
       let b = h.shows.vertices in
       let c = t.high in
       let i = all_of (InList W.e x) (edges_of C x) (listed_in C W h.shows h.fine.good x t.low (omega arith)) e t.listed in
-      let q : edge_tag_of (W.e.tag e) ≡ 2 = (let y = h.shows.elinks e i.low i.high in let z = t.link in cc) in
+      let q : edge_tag_of (W.e.tag e) ≡ 2 = same_tag (sym (h.shows.elinks e i.low i.high) ∙ t.link) in
       (record { low = i.low; high = i.high; tried = tag_is (W.e.tag e) q }, i.own)
 
   -- ---- which worker tries

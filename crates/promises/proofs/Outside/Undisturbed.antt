@@ -8,7 +8,7 @@ use native.Mathlib.Omega.{arith}
 use lib.IntN.{ℤ}
 use Rattle.catalogue.specs.Catalogue.{Catalogue}
 use Rattle.catalogue.specs.Choosing.{Choice}
-use Rattle.catalogue.specs.declared.links.Target.TheVariants as target
+use Rattle.std.proofs.Common.{Some}
 use Rattle.row.specs.Lists.Store
 use Rattle.row.specs.Machine.World.{World}
 use Rattle.row.proofs.Graphs.Good.{WGood}
@@ -36,7 +36,7 @@ module _ (C : Catalogue) (S : World) (shows : Shows C S) (good : WGood S) where
       record {
         source = v_live C S shows good x at_x;
         listed = e_live C S shows good x f at_x (record { listed = record { low = i.low; high = i.high; own = z.from_x }; is = z.is; goal = i.target });
-        leads = shows.targets f i.low i.high ∙ ap target.At z.to_y;
+        leads = shows.targets f i.low i.high ∙ ap Some z.to_y;
       }
 
   -- ---- the walk

@@ -8,6 +8,7 @@ use mathlib.Core.Logic.{inl, inr}
 use native.Mathlib.Omega.{arith}
 use borrow.Author.Tests.{ltb-true}
 use lib.Dec.{ltb}
+use Rattle.std.proofs.Common.{Result, Err}
 use Rattle.catalogue.specs.Tests.{upd}
 use Rattle.catalogue.specs.Catalogue.{Catalogue}
 use Rattle.catalogue.specs.Calls.{After, count_fits, worker_fits, refuse}
@@ -16,7 +17,6 @@ use Rattle.catalogue.specs.Workers.{worker_at, put}
 use Rattle.catalogue.specs.declared.answers.Refusal.{Refusal}
 use Rattle.catalogue.specs.declared.answers.Refusal.TheVariants as refusal
 use Rattle.catalogue.specs.declared.answers.Answer.{Answer}
-use Rattle.catalogue.specs.declared.answers.Answer.TheVariants as answer
 use Rattle.catalogue.specs.declared.workers.Worker.{Worker}
 use Rattle.laws.proofs.Picks.{both_true, clash}
 use Rattle.row.proofs.Base.{upd_at, upd_other, same?}
@@ -56,10 +56,10 @@ module _ (workers : ℕ) (m : Moment) (X : Conf) (h : Held workers m X) (v : ℕ
 -- What the answer to a call of the host reports: what it takes up for each worker, and the call that it answers.
 -- A refusal reports nothing.
 pub record Tells : Type 0 where
-  pub up : Answer → ℕ → Option Ask
-  pub call : Answer → (ℕ → Begun) → Option (Call Ask ℕ)
-  pub no_up : (r : Refusal) (w : ℕ) → up (answer.Refused r) w ≡ none
-  pub no_call : (r : Refusal) (b : ℕ → Begun) → call (answer.Refused r) b ≡ none
+  pub up : Result Answer Refusal → ℕ → Option Ask
+  pub call : Result Answer Refusal → (ℕ → Begun) → Option (Call Ask ℕ)
+  pub no_up : (r : Refusal) (w : ℕ) → up (Err r) w ≡ none
+  pub no_call : (r : Refusal) (b : ℕ → Begun) → call (Err r) b ≡ none
 
 -- After a call the machine has made a choice of its own, with the same result, which reports the same;
 -- and the call was not torn.
@@ -67,7 +67,7 @@ pub record Done (workers : ℕ) (X : Conf) (t : Tells) (a : After) : Type 0 wher
   pub choice : Choice
   pub held : Held workers (record { catalogue = a.catalogue; table = a.table }) (act X choice)
   pub same : Same X choice (t.up a.answer) (t.call a.answer)
-  pub whole : a.answer ≡ answer.Refused refusal.Torn → ⊥
+  pub whole : a.answer ≡ Err refusal.Torn → ⊥
 
 module _ (workers : ℕ) (m : Moment) (X : Conf) (h : Held workers m X) (most : workers ≤ 8) where
   -- a worker beyond the table rests, and its step changes nothing
@@ -108,7 +108,7 @@ module _ (workers : ℕ) (m : Moment) (X : Conf) (h : Held workers m X) (most : 
   refused t r n = record {
     choice = steps 8;
     held = quiet;
-    same = quiet_same (t.up (answer.Refused r)) (t.call (answer.Refused r)) (t.no_up r) (t.no_call r);
+    same = quiet_same (t.up (Err r)) (t.call (Err r)) (t.no_up r) (t.no_call r);
     whole = λ e. n (cc);
   }
 

@@ -2,9 +2,9 @@
 use Prim.Native.Nat.{ℕ, zero, suc, ◌<◌}
 use mathlib.Core.Path.{◌≡◌, refl}
 use native.Mathlib.Omega.{arith}
+use Rattle.catalogue.specs.Numbers.{some_link}
 use Rattle.catalogue.specs.Tests.{upd}
 use Rattle.catalogue.specs.Catalogue.{fresh, vertex_key, vertex_key_in, vertex_link, vertex_link_in, edge_key, edge_key_in}
-use Rattle.catalogue.specs.declared.links.VertexLink.TheVariants as vertex
 use Rattle.catalogue.specs.Choosing.{start}
 use Rattle.catalogue.specs.Workers.{idle, worker_at, idle_table}
 use Rattle.row.specs.Machine.Choices
@@ -33,7 +33,7 @@ fresh_shows = record {
     key (suc zero) h = refl
     key (suc (suc x)) h = absurd (omega arith)
 
-    link : (x : ℕ) → x < 2 → (x ≡ 1 → ⊥) → vertex_link fresh x ≡ vertex.At ((Choices.fresh).world.v.next x) 0
+    link : (x : ℕ) → x < 2 → (x ≡ 1 → ⊥) → vertex_link fresh x ≡ some_link ((Choices.fresh).world.v.next x) 0
     link zero h n = refl
     link (suc zero) h n = absurd (n refl)
     link (suc (suc x)) h n = absurd (omega arith)

@@ -7,6 +7,7 @@ use mathlib.Core.Logic.{inl, inr}
 use mathlib.Core.Path.{◌≡◌, refl, sym, ap, ap₂, ◌∙◌}
 use lib.ListN.{length, get_or, set, take, drop}
 use lib.Seq.{get_or-set_same, get_or-set_other, set_out}
+use Rattle.std.proofs.Common.{Result, Ok, Err}
 use Rattle.catalogue.specs.Tests.{pick}
 use Rattle.catalogue.specs.Calls.{step}
 use Rattle.catalogue.specs.Listing.{ReplyLine}
@@ -14,6 +15,7 @@ use Rattle.catalogue.specs.Run.{Running, shares, with_reply, turn, takes_up, ste
 use Rattle.catalogue.specs.Choosing.{Choice, takes, steps, Moment, start, choose, after}
 use Rattle.catalogue.specs.Script.{Script}
 use Rattle.catalogue.specs.Workers.{busy}
+use Rattle.catalogue.specs.declared.answers.Refusal.{Refusal}
 use Rattle.catalogue.specs.declared.answers.Answer.{Answer}
 use Rattle.catalogue.specs.declared.answers.Answer.TheVariants as answer
 use Rattle.catalogue.specs.declared.workers.Request.{Request}
@@ -74,10 +76,10 @@ replies_both m (x ∷ xs) ys =
     ∙ sym (append_assoc (reply_by m x) (replies_of (choose m x).moment xs) (replies_of (after (choose m x).moment xs) ys))
 
 -- a reply comes after those before it
-replied_is : (l : List ReplyLine) (position w code : ℕ) (a : Answer) → map told (with_reply l position w code a) ≡ map told l ++ (reply_to w a ++ [])
-replied_is l position w code (answer.Going met) = sym (append-nil (map told l))
-replied_is l position w code (answer.Reply n) = map-append told l _
-replied_is l position w code (answer.Refused r) = sym (append-nil (map told l))
+replied_is : (l : List ReplyLine) (position w code : ℕ) (a : Result Answer Refusal) → map told (with_reply l position w code a) ≡ map told l ++ (reply_to w a ++ [])
+replied_is l position w code (Ok (answer.Going met)) = sym (append-nil (map told l))
+replied_is l position w code (Ok (answer.Reply n)) = map-append told l _
+replied_is l position w code (Err r) = sym (append-nil (map told l))
 
 turn_replies : (r : Running) (position w : ℕ) → map told (turn r position w).replies ≡ map told r.replies ++ replies_of (moment_of r) (turned r w)
 unfolding replies_of

@@ -4,6 +4,7 @@ use mathlib.Core.Bool.{true, not}
 use mathlib.Core.Option.{Option, none, some}
 use mathlib.Core.Path.{◌≡◌, refl, sym, ap, ◌∙◌, subst}
 use native.Mathlib.Omega.{arith}
+use Rattle.std.proofs.Common.{Result, Ok, Err}
 use Rattle.catalogue.specs.Catalogue.{Catalogue}
 use Rattle.catalogue.specs.Calls.{After, worker_fits, refuse, perform, step}
 use Rattle.catalogue.specs.Choosing.{Moment}
@@ -33,10 +34,10 @@ use Rattle.promises.proofs.Runs.Telling.{begun_of, answered_of}
 use Rattle.promises.proofs.Runs.Done.{held_with, Tells, Done, refused, in_table}
 
 -- what an answer replies, and the call that it answers
-abbrev pub replied : Answer → Option ℕ
-replied (answer.Going met) = none
-replied (answer.Reply n) = some n
-replied (answer.Refused r) = none
+abbrev pub replied : Result Answer Refusal → Option ℕ
+replied (Ok (answer.Going met)) = none
+replied (Ok (answer.Reply n)) = some n
+replied (Err r) = none
 
 abbrev replying : Begun → Option ℕ → Option (Call Ask ℕ)
 replying b none = none
@@ -47,16 +48,16 @@ replying_is : (b : Began) (o : Option ℕ) → answered_of (close b o) ≡ reply
 replying_is b none = refl
 replying_is b (some r) = refl
 
-answers_is : (b : Begun) (a : Answer) → answers b a ≡ replying b (replied a)
-answers_is b (answer.Going met) = refl
-answers_is b (answer.Reply n) = refl
-answers_is b (answer.Refused r) = refl
+answers_is : (b : Begun) (a : Result Answer Refusal) → answers b a ≡ replying b (replied a)
+answers_is b (Ok (answer.Going met)) = refl
+answers_is b (Ok (answer.Reply n)) = refl
+answers_is b (Err r) = refl
 
 -- A decision that does not refuse is carried out: its write and record are left, and its reply is answered.
 record Performed (C : Catalogue) (t : Table) (n : ℕ) (w : Worker) (d : Decision) : Type 0 where
   leaves : perform C t n w d ≡ record { catalogue = commit C (write_of d); table = put t n (record_after w d); answer = answer_of d (record_after w d) }
   replies : replied (answer_of d (record_after w d)) ≡ reply_of d
-  whole : answer_of d (record_after w d) ≡ answer.Refused refusal.Torn → ⊥
+  whole : answer_of d (record_after w d) ≡ Err refusal.Torn → ⊥
 
 performed : (C : Catalogue) (t : Table) (n : ℕ) (w : Worker) (d : Decision) → Sure d → Performed C t n w d
 performed C t n w decision.Torn s = absurd s
@@ -75,7 +76,7 @@ resting? s b e = clash (cc)
 pub record Carried (workers : ℕ) (X : Conf) (v : ℕ) (a : After) : Type 0 where
   pub held : Held workers (record { catalogue = a.catalogue; table = a.table }) (act X (steps v))
   pub same_reply : replied a.answer ≡ (move X.world (X.at v)).answer
-  pub whole : a.answer ≡ answer.Refused refusal.Torn → ⊥
+  pub whole : a.answer ≡ Err refusal.Torn → ⊥
 
 module _ (workers : ℕ) (m : Moment) (X : Conf) (h : Held workers m X) (most : workers ≤ 8) (v : ℕ) where
   abbrev done : After

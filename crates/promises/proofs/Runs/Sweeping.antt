@@ -5,6 +5,7 @@ use mathlib.Core.Option.{none}
 use mathlib.Core.Path.{◌≡◌, refl, sym, ap, ◌∙◌, subst}
 use mathlib.Core.Logic.{inl, inr}
 use native.Mathlib.Omega.{arith}
+use Rattle.std.proofs.Common.{Ok, Err}
 use Rattle.catalogue.specs.Tests.{pick}
 use Rattle.catalogue.specs.Calls.{count_fits}
 use Rattle.catalogue.specs.Choosing.{Moment}
@@ -14,7 +15,6 @@ use Rattle.catalogue.specs.Sweep.{AfterSweep, swept, sweep_into, any_busy, refus
 use Rattle.catalogue.specs.Workers.{worker_at, busy}
 use Rattle.catalogue.specs.declared.answers.Refusal.{Refusal}
 use Rattle.catalogue.specs.declared.answers.Refusal.TheVariants as refusal
-use Rattle.catalogue.specs.declared.answers.Made.TheVariants as made
 use Rattle.catalogue.specs.declared.workers.Table.{Table}
 use Rattle.laws.proofs.Picks.{clash}
 use Rattle.row.proofs.Base.{same?, lt_or}
@@ -76,7 +76,7 @@ pub record DoneSweep (workers : ℕ) (t : Table) (X : Conf) (a : AfterSweep) : T
   pub choice : Choice
   pub held : Held workers (record { catalogue = a.second; table = t }) (act X choice)
   pub same : Same X choice (λ w. none) (λ b. none)
-  pub whole : a.answer ≡ made.Refused refusal.Torn → ⊥
+  pub whole : a.answer ≡ Err refusal.Torn → ⊥
 
 module _ (workers : ℕ) (m : Moment) (X : Conf) (h : Held workers m X) (most : workers ≤ 8) where
   refused : (r : Refusal) → (r ≡ refusal.Torn → ⊥) → DoneSweep workers m.table X (refuse_sweep m.catalogue r)
@@ -106,7 +106,7 @@ module _ (workers : ℕ) (m : Moment) (X : Conf) (h : Held workers m X) (most : 
         subst (λ (Y : World). WGood Y × Untried Y × (graph Y ≡ graph X.world)) z
         (after.good, after.untried, sweeps_same m.catalogue X.world h.shows h.fine.good (untried workers m X h most e))
 
-    carried : DoneSweep workers m.table X (record { second = swept m.catalogue; answer = made.Done })
+    carried : DoneSweep workers m.table X (record { second = swept m.catalogue; answer = Ok tt })
     carried = record {
       choice = sweeps after.world;
       held = rw accepted (record {
@@ -128,7 +128,7 @@ module _ (workers : ℕ) (m : Moment) (X : Conf) (h : Held workers m X) (most : 
       by : (a b : Bool) → any_busy m.table m.table.count ≡ b → (c : Bool) → sound Soundness.sweep m.catalogue ≡ c
           → DoneSweep workers m.table X (pick a
           (pick b (refuse_sweep m.catalogue refusal.Busy)
-          (pick c (record { second = swept m.catalogue; answer = made.Done }) (refuse_sweep m.catalogue refusal.Torn)))
+          (pick c (record { second = swept m.catalogue; answer = Ok tt }) (refuse_sweep m.catalogue refusal.Torn)))
           (refuse_sweep m.catalogue refusal.Worker))
       by false b e c q = refused refusal.Worker (λ z. clash (cc))
       by true true e c q = refused refusal.Busy (λ z. clash (cc))

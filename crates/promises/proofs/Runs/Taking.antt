@@ -10,6 +10,7 @@ use borrow.Author.Tests.{leb-true, lt-ltb}
 use lib.IntN.{ℤ}
 use lib.Dec.{eqb, leb}
 use lib.Signed.{lt_z}
+use Rattle.std.proofs.Common.{Ok}
 use Rattle.catalogue.specs.Tests.{pick, upd, eq_z}
 use Rattle.catalogue.specs.Numbers.{least, greatest, reserved}
 use Rattle.catalogue.specs.Calls.{After, refuse, take_up}
@@ -20,7 +21,7 @@ use Rattle.catalogue.specs.declared.answers.Refusal.{Refusal}
 use Rattle.catalogue.specs.declared.answers.Refusal.TheVariants as refusal
 use Rattle.catalogue.specs.declared.answers.Answer.TheVariants as answer
 use Rattle.catalogue.specs.declared.workers.Worker.{Worker}
-use Rattle.laws.proofs.Picks.{pick_both, clash, both_true}
+use Rattle.laws.proofs.Picks.{pick_both, clash, both_true, same_next}
 use Rattle.laws.proofs.Keys.{risen}
 use Rattle.row.proofs.Tests.{eq_z_yes, not_below, not_false}
 use Rattle.row.specs.Machine.Vertices.{addV, remV, conV, fits_key}
@@ -98,7 +99,7 @@ module _ (workers : ℕ) (m : Moment) (X : Conf) (h : Held workers m X) (most : 
   first = bare (first_place q (X.world.v.next 0))
 
   abbrev going : After
-  going = record { catalogue = m.catalogue; table = put m.table v first; answer = answer.Going 0 }
+  going = record { catalogue = m.catalogue; table = put m.table v first; answer = Ok (answer.Going 0) }
 
   abbrev begun : World.Ask → Conf
   begun a = record { world = X.world; at = upd X.at v (starts X.world a) }
@@ -145,7 +146,7 @@ module _ (workers : ℕ) (m : Moment) (X : Conf) (h : Held workers m X) (most : 
   taking_both P no' yes' =
       let whole = h.shows.vlinks 0 (omega (arith, h.shows.vertices)) (λ z. clash (cc)) in
       take_up_both m.catalogue m.table v q P (λ r why. no' r (λ z. clash (cc (why z))))
-      (λ e n a. let same : n ≡ X.world.v.next 0 = cc a.leads in rw same (yes' (in_table h v e, rw same at a)))
+      (λ e n a. let same : n ≡ X.world.v.next 0 = same_next (sym a.leads ∙ whole) in rw same (yes' (in_table h v e, rw same at a)))
 
   pub takes_done : Fitting q → Done workers X taking_up (take_up m.catalogue m.table v q)
   takes_done keys =

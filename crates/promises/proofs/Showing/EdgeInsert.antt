@@ -4,13 +4,13 @@ use mathlib.Core.Path.{◌≡◌, refl, ◌∙◌}
 use mathlib.Core.Logic.{inl, inr}
 use native.Mathlib.Omega.{arith}
 use lib.IntN.{ℤ}
+use Rattle.catalogue.specs.Numbers.{some_link}
 use Rattle.catalogue.specs.Tests.{upd}
 use Rattle.catalogue.specs.Numbers as numbers
 use Rattle.catalogue.specs.Catalogue.{Catalogue, edge_key, edge_link, edge_target}
 use Rattle.catalogue.specs.Writes.{commit, with_edge}
 use Rattle.catalogue.specs.Steps.Edges.{relink, insert}
-use Rattle.catalogue.specs.declared.links.EdgeLink.TheVariants as edge
-use Rattle.catalogue.specs.declared.links.Target.TheVariants as target
+use Rattle.std.proofs.Common.{Some}
 use Rattle.row.proofs.Base.{upd_same, upd_other, same?}
 use Rattle.row.specs.Lists.Edges.{Tag, transit, Prev, head, at, Edges, link, einsert}
 use Rattle.row.specs.Machine.World.{World, with_e}
@@ -44,7 +44,7 @@ module _ (C : Catalogue) (W : World) (s : Shows C W) (some : 1 ≤ W.e.used) (le
         | inr d ↦ rw (upd_other W.e.key n l e d) (ekey_else C.edges.key n l e d ∙ s.ekeys e (omega arith))
       ]
 
-  new_link : (e : ℕ) → 1 ≤ e → e < suc n → edge_link (with_edge C n l v c) e ≡ edge.At (upd W.e.next n c e) (edge_tag_of (upd W.e.tag n transit e))
+  new_link : (e : ℕ) → 1 ≤ e → e < suc n → edge_link (with_edge C n l v c) e ≡ some_link (upd W.e.next n c e) (edge_tag_of (upd W.e.tag n transit e))
   new_link e i h =
       elim (same? e n) [
         | inl q ↦ rw (q, upd_same W.e.next n c, upd_same W.e.tag n transit) (edge_there C.edges.link n c transit some left fits)
@@ -53,7 +53,7 @@ module _ (C : Catalogue) (W : World) (s : Shows C W) (some : 1 ≤ W.e.used) (le
             (edge_else C.edges.link n (numbers.link c numbers.transit) e d ∙ s.elinks e i (omega arith))
       ]
 
-  new_target : (e : ℕ) → 1 ≤ e → e < suc n → edge_target (with_edge C n l v c) e ≡ target.At (upd W.e.target n v e)
+  new_target : (e : ℕ) → 1 ≤ e → e < suc n → edge_target (with_edge C n l v c) e ≡ Some (upd W.e.target n v e)
   new_target e i h =
       elim (same? e n) [
         | inl q ↦ rw (q, upd_same W.e.target n v) (target_there C.edges.target n v low)

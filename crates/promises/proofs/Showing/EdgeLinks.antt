@@ -4,12 +4,11 @@ use mathlib.Core.Path.{◌≡◌, ◌∙◌}
 use mathlib.Core.Logic.{inl, inr}
 use native.Mathlib.Omega.{arith}
 use Rattle.catalogue.specs.Tests.{upd}
-use Rattle.catalogue.specs.Numbers.{plain}
+use Rattle.catalogue.specs.Numbers.{plain, some_link}
 use Rattle.catalogue.specs.Numbers as numbers
 use Rattle.catalogue.specs.Catalogue.{Catalogue, first_link, edge_link}
 use Rattle.catalogue.specs.Writes.{commit, with_first}
 use Rattle.catalogue.specs.Steps.Edges.{relink}
-use Rattle.catalogue.specs.declared.links.EdgeLink.TheVariants as edge
 use Rattle.catalogue.specs.declared.writes.Write.TheVariants.{EdgeLink}
 use Rattle.laws.proofs.Leads.{edge_next_in, first_next_in}
 use Rattle.row.proofs.Base.{upd_same, upd_other, same?}
@@ -42,7 +41,7 @@ turned E first next tag = record { first = first; next = next; tag = tag; key = 
 
 module _ (C : Catalogue) (W : World) (s : Shows C W) (e : ℕ) (o : Out W.e.used e) (n : ℕ) (fits : n < 2048) (t : Tag) (next : ℕ → ℕ) (tag : ℕ → Tag)
     (leads : Turned W.e.next W.e.tag e n t next tag) where
-  links : (f : ℕ) → 1 ≤ f → f < W.e.used → edge_link (commit C (EdgeLink e n (edge_tag_of t))) f ≡ edge.At (next f) (edge_tag_of (tag f))
+  links : (f : ℕ) → 1 ≤ f → f < W.e.used → edge_link (commit C (EdgeLink e n (edge_tag_of t))) f ≡ some_link (next f) (edge_tag_of (tag f))
   unfolding commit
   links f l h =
       elim (leads f) [
@@ -80,7 +79,7 @@ shows_retag C W s e o t =
 -- ---- another node after p
 
 module _ (C : Catalogue) (W : World) (s : Shows C W) (n : ℕ) (fits : n < 2048) where
-  first_turned : (u x : ℕ) → 2 ≤ x → x < W.v.used → first_link (with_first C u (numbers.link n plain)) x ≡ edge.At (upd W.e.first u n x) plain
+  first_turned : (u x : ℕ) → 2 ≤ x → x < W.v.used → first_link (with_first C u (numbers.link n plain)) x ≡ some_link (upd W.e.first u n x) plain
   first_turned u x l h =
       elim (same? x u) [
         | inl q ↦ rw (q, upd_same W.e.first u n) (first_there C.vertices.first u n fits)

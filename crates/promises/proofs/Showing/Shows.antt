@@ -8,15 +8,13 @@ use mathlib.Core.Option.{Option, none, some}
 use mathlib.Core.Path.{◌≡◌}
 use lib.IntN.{ℤ}
 use lib.ListN.{length, take, drop}
-use Rattle.catalogue.specs.Numbers.{edge_pool, plain}
+use Rattle.catalogue.specs.Numbers.{edge_pool, plain, some_link}
 use Rattle.catalogue.specs.Catalogue.{Catalogue, vertex_key, vertex_link, first_link, edge_key, edge_link, edge_target}
 use Rattle.catalogue.specs.Workers.{has, met_count, asks_pair, request_of}
 use Rattle.catalogue.specs.Writes.{commit}
 use Rattle.catalogue.specs.Steps.Places.{key_refused}
 use Rattle.catalogue.specs.Steps.Decide.{decide, record_after, write_of}
-use Rattle.catalogue.specs.declared.links.VertexLink.TheVariants as vertex
-use Rattle.catalogue.specs.declared.links.EdgeLink.TheVariants as edge
-use Rattle.catalogue.specs.declared.links.Target.TheVariants as target
+use Rattle.std.proofs.Common.{Some}
 use Rattle.catalogue.specs.declared.steps.Decision.{Decision}
 use Rattle.catalogue.specs.declared.steps.Decision.TheVariants as decision
 use Rattle.catalogue.specs.declared.workers.Ends.{Ends}
@@ -53,11 +51,11 @@ pub record Shows (C : Catalogue) (W : World) : Type 0 where
   pub edges : W.e.used ≡ 1 + C.counts.edges
   pub edges_fit : C.counts.edges ≤ 2047
   pub vkeys : (x : ℕ) → x < W.v.used → vertex_key C x ≡ W.v.key x
-  pub vlinks : (x : ℕ) → x < W.v.used → (x ≡ 1 → ⊥) → vertex_link C x ≡ vertex.At (W.v.next x) (vertex_tag_of (W.v.marked x))
-  pub firsts : (x : ℕ) → 2 ≤ x → x < W.v.used → first_link C x ≡ edge.At (W.e.first x) plain
+  pub vlinks : (x : ℕ) → x < W.v.used → (x ≡ 1 → ⊥) → vertex_link C x ≡ some_link (W.v.next x) (vertex_tag_of (W.v.marked x))
+  pub firsts : (x : ℕ) → 2 ≤ x → x < W.v.used → first_link C x ≡ some_link (W.e.first x) plain
   pub ekeys : (e : ℕ) → e < W.e.used → edge_key C e ≡ W.e.key e
-  pub elinks : (e : ℕ) → 1 ≤ e → e < W.e.used → edge_link C e ≡ edge.At (W.e.next e) (edge_tag_of (W.e.tag e))
-  pub targets : (e : ℕ) → 1 ≤ e → e < W.e.used → edge_target C e ≡ target.At (W.e.target e)
+  pub elinks : (e : ℕ) → 1 ≤ e → e < W.e.used → edge_link C e ≡ some_link (W.e.next e) (edge_tag_of (W.e.tag e))
+  pub targets : (e : ℕ) → 1 ≤ e → e < W.e.used → edge_target C e ≡ Some (W.e.target e)
 
 abbrev pub prev_of : Edges.Prev → Prev
 prev_of head = prev.First

@@ -7,11 +7,9 @@ use mathlib.Core.Logic.{inl, inr}
 use native.Mathlib.Omega.{arith}
 use lib.IntN.{ℤ}
 use Rattle.catalogue.specs.Tests.{upd}
-use Rattle.catalogue.specs.Numbers.{link, plain, marked}
+use Rattle.catalogue.specs.Numbers.{link, plain, marked, some_link}
 use Rattle.catalogue.specs.Catalogue.{Catalogue, vertex_key, vertex_link, first_link}
 use Rattle.catalogue.specs.Writes.{commit}
-use Rattle.catalogue.specs.declared.links.VertexLink.TheVariants as vertex
-use Rattle.catalogue.specs.declared.links.EdgeLink.TheVariants as edge
 use Rattle.catalogue.specs.declared.writes.Write.TheVariants.{VertexLink, NewVertex}
 use Rattle.laws.proofs.Leads.{vertex_next_in}
 use Rattle.laws.proofs.Picks.{clash}
@@ -31,7 +29,7 @@ with_v W D = record { v = D; e = W.e }
 -- A vertex gets another link.
 module _ (C : Catalogue) (W : World) (s : Shows C W) (x : ℕ) (inner : x ≡ 1 → ⊥) (n : ℕ) (in_pool : n < 256) (b : Bool) (next : ℕ → ℕ) (mark : ℕ → Bool)
     (leads : Turned W.v.next W.v.marked x n b next mark) where
-  links : (y : ℕ) → y < W.v.used → (y ≡ 1 → ⊥) → vertex_link (commit C (VertexLink x n (vertex_tag_of b))) y ≡ vertex.At (next y) (vertex_tag_of (mark y))
+  links : (y : ℕ) → y < W.v.used → (y ≡ 1 → ⊥) → vertex_link (commit C (VertexLink x n (vertex_tag_of b))) y ≡ some_link (next y) (vertex_tag_of (mark y))
   unfolding commit
   links y h d =
       elim (leads y) [
@@ -104,7 +102,7 @@ module _ (C : Catalogue) (W : World) (s : Shows C W) where
           | inr n ↦ rw (upd_other W.v.key new k x n) (vkey_else C.vertices.key new k x n ∙ s.vkeys x (omega arith))
         ]
 
-    insert_firsts : (x : ℕ) → 2 ≤ x → x < suc new → first_link D x ≡ edge.At (X.e.first x) plain
+    insert_firsts : (x : ℕ) → 2 ≤ x → x < suc new → first_link D x ≡ some_link (X.e.first x) plain
     unfolding commit
     insert_firsts x l h =
         elim (same? x new) [
@@ -118,7 +116,7 @@ module _ (C : Catalogue) (W : World) (s : Shows C W) where
     abbrev next_filled : ℕ → ℕ
     next_filled = upd W.v.next new (W.v.next p)
 
-    insert_links : (x : ℕ) → x < suc new → (x ≡ 1 → ⊥) → vertex_link D x ≡ vertex.At (X.v.next x) (vertex_tag_of (X.v.marked x))
+    insert_links : (x : ℕ) → x < suc new → (x ≡ 1 → ⊥) → vertex_link D x ≡ some_link (X.v.next x) (vertex_tag_of (X.v.marked x))
     unfolding commit
     insert_links x h d =
         elim (same? x p) [

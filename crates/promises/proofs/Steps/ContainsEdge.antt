@@ -12,7 +12,7 @@ use lib.Dec.{eqb}
 use lib.Signed.{◌<ℤ◌, lt_z}
 use Rattle.catalogue.specs.Tests.{pick, eq_z}
 use Rattle.catalogue.specs.Numbers.{added}
-use Rattle.catalogue.specs.Catalogue.{Catalogue, edge_link, at_edge}
+use Rattle.catalogue.specs.Catalogue.{Catalogue, edge_link, at_link}
 use Rattle.catalogue.specs.Steps.Both.{at_both}
 use Rattle.catalogue.specs.Steps.Contains.{settle_contains_edge, step_contains_edge}
 use Rattle.catalogue.specs.Steps.Decide.{decide}
@@ -93,7 +93,7 @@ module _ (C : Catalogue) (W : World) (s : Shows C W) (g : WGood W) (k l : ℤ) (
       where
         by : (b q : Bool) → lt_z (W.e.key c) l ≡ b → eq_z (W.e.key c) l ≡ q
             → Decides
-            (pick b (at_edge (edge_link C c) decision.Torn (λ next tag. decision.Going (place.ConE (between k l u v) next) Nothing))
+            (pick b (at_link (edge_link C c) decision.Torn (λ next tag. decision.Going (place.ConE (between k l u v) next) Nothing))
             (pick q (settle_contains_edge C (between k l u v) c) (decision.Reply 8 Nothing)))
             → Follows C w (cond b (goes W (ConE k l u v (W.e.next c))) (cond dead (says W 8) (cond (q && leads) (says W 1) (says W 8))))
         by true q e f d =

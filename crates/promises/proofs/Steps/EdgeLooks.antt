@@ -9,11 +9,10 @@ use lib.IntN.{ℤ}
 use lib.Dec.{eqb}
 use lib.Signed.{lt_z}
 use Rattle.catalogue.specs.Tests.{pick, eq_z}
-use Rattle.catalogue.specs.Numbers.{plain}
+use Rattle.catalogue.specs.Numbers.{plain, some_link}
 use Rattle.catalogue.specs.Catalogue.{Catalogue, vertex_link, edge_target, at_mark, at_target}
 use Rattle.catalogue.specs.Steps.Both.{at_both}
 use Rattle.catalogue.specs.Steps.Edges.{link_behind, see_key, see_edge, see_behind, look_at_edge, landed}
-use Rattle.catalogue.specs.declared.links.EdgeLink.TheVariants as edge
 use Rattle.catalogue.specs.declared.steps.BothSeen.TheVariants as both
 use Rattle.catalogue.specs.declared.steps.EdgeSeen.{EdgeSeen}
 use Rattle.catalogue.specs.declared.steps.EdgeSeen.TheVariants as seen
@@ -64,7 +63,7 @@ aims_behind W u l (at p) a = let o = no_tail W.e u p a.inside (λ z. a.inner (ap
 
 -- p's link
 behind_seen : (C : Catalogue) (W : World) → Shows C W → (u : ℕ) (p : Prev) → Series W.v.used u → Behind W.e.used p
-    → link_behind C u (prev_of p) ≡ edge.At (link W.e u p) (tag_behind W.e.tag p)
+    → link_behind C u (prev_of p) ≡ some_link (link W.e u p) (tag_behind W.e.tag p)
 behind_seen C W s u head o b = s.firsts u o.low o.high
 behind_seen C W s u (at p) o b = s.elinks p b.0 b.1
 

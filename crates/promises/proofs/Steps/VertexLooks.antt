@@ -9,11 +9,10 @@ use lib.IntN.{ℤ}
 use lib.Dec.{eqb}
 use lib.Signed.{lt_z}
 use Rattle.catalogue.specs.Tests.{pick, eq_z}
-use Rattle.catalogue.specs.Numbers.{plain, marked}
+use Rattle.catalogue.specs.Numbers.{plain, marked, some_link}
 use Rattle.catalogue.specs.Catalogue.{Catalogue, vertex_link, vertex_link_in}
 use Rattle.catalogue.specs.Steps.Vertices.{see_vertex, look_at_vertex}
 use Rattle.catalogue.specs.Steps.Finding.{look_for}
-use Rattle.catalogue.specs.declared.links.VertexLink.TheVariants as vertex
 use Rattle.catalogue.specs.declared.steps.VertexSeen.{VertexSeen}
 use Rattle.catalogue.specs.declared.steps.VertexSeen.TheVariants as seen
 use Rattle.catalogue.specs.declared.steps.VertexFound.{VertexFound}
@@ -31,7 +30,7 @@ use Rattle.promises.proofs.Showing.Shows.{Shows, vertex_tag_of}
 -- A vertex's link: its mark, and where it leads. The tail's leads nowhere in the world.
 record Reads (C : Catalogue) (W : World) (x : ℕ) : Type 0 where
   pub to : ℕ
-  pub reads : vertex_link C x ≡ vertex.At to (vertex_tag_of (W.v.marked x))
+  pub reads : vertex_link C x ≡ some_link to (vertex_tag_of (W.v.marked x))
   pub leads : (x ≡ 1 → ⊥) → to ≡ W.v.next x
 
 -- what AddV and RemV see, and what is then known
@@ -48,7 +47,7 @@ pub data Sought (D : Cat) (k : ℤ) (c : ℕ) : VertexFound → VSeen → Type 0
   seeks_found : Sought D k c finds.Found found
   seeks_missing : Sought D k c finds.Missing missing
 
-tail_link : (C : Catalogue) → vertex_link C 1 ≡ vertex.At 1 plain
+tail_link : (C : Catalogue) → vertex_link C 1 ≡ some_link 1 plain
 unfolding vertex_link_in
 tail_link C = refl
 
@@ -56,7 +55,7 @@ module _ (C : Catalogue) (W : World) (s : Shows C W) (g : Good W.v) where
   abbrev D : Cat
   D = W.v
 
-  pub head_reads : vertex_link C 0 ≡ vertex.At (D.next 0) (vertex_tag_of (D.marked 0))
+  pub head_reads : vertex_link C 0 ≡ some_link (D.next 0) (vertex_tag_of (D.marked 0))
   head_reads = s.vlinks 0 (omega (arith, g.sound.some)) (λ e. omega arith)
 
   reads_at : (x : ℕ) → x < D.used → Reads C W x
@@ -66,7 +65,7 @@ module _ (C : Catalogue) (W : World) (s : Shows C W) (g : Good W.v) where
         | inr d ↦ record { to = D.next x; reads = s.vlinks x h d; leads = λ d. refl }
       ]
     where
-      tail_reads : x ≡ 1 → vertex_link C x ≡ vertex.At 1 (vertex_tag_of (D.marked x))
+      tail_reads : x ≡ 1 → vertex_link C x ≡ some_link 1 (vertex_tag_of (D.marked x))
       tail_reads q = rw (q, g.sound.tail_plain) (tail_link C)
 
   -- a marked vertex, and one whose key is not above k, is not the tail

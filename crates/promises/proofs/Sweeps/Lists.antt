@@ -10,12 +10,13 @@ use lib.Dec.{leb, ltb}
 use lib.IntN.{ℤ}
 use lib.Signed.{◌<ℤ◌, lt_z_yes}
 use Rattle.catalogue.specs.Tests.{pick, every}
-use Rattle.catalogue.specs.Catalogue.{Catalogue, first_link, edge_key, edge_key_in, edge_link, edge_target, at_edge, at_target}
+use Rattle.catalogue.specs.Catalogue.{Catalogue, first_link, edge_key, edge_key_in, edge_link, edge_target, at_link, at_target}
 use Rattle.catalogue.specs.Numbers.{least, greatest}
 use Rattle.catalogue.specs.Live.{first_edge, next_edge, edges_of, live_keys}
 use Rattle.catalogue.specs.Soundness.{Asks, tag_fits, target_sound, edge_sound, edges_sound, sound}
 use Rattle.catalogue.specs.Sweep.{swept, swept_edges}
-use Rattle.catalogue.specs.declared.links.EdgeLink.{EdgeLink}
+use Rattle.std.proofs.Common.{Option}
+use Rattle.catalogue.specs.declared.links.Link.{Link}
 use Rattle.laws.proofs.Picks.{pick_both, clash}
 use Rattle.laws.proofs.Members.{All, every_all}
 use Rattle.resting.specs.Kept.{row, In, start, size, stop, share}
@@ -44,8 +45,8 @@ module _ (asks : Asks) (C : Catalogue) (s : sound asks C ≡ true) (again : soun
   abbrev key : ℕ → ℤ
   key = edge_key (swept C)
 
-  abbrev to : EdgeLink → ℕ
-  to l = at_edge l 0 (λ next tag. next)
+  abbrev to : Option (Link ℕ) → ℕ
+  to l = at_link l 0 (λ next tag. next)
 
   tail_above : least <ℤ key 0
   tail_above = rw (edge_tail_key C) (lt_z_yes tt)

@@ -7,12 +7,13 @@ use mathlib.Core.Path.{◌≡◌, refl, ap}
 use native.Mathlib.Omega.{arith}
 use lib.IntN.{ℤ}
 use lib.Signed.{◌<ℤ◌}
-use Rattle.catalogue.specs.Catalogue.{Catalogue, vertex_key, vertex_key_in, vertex_link, at_vertex}
+use Rattle.catalogue.specs.Catalogue.{Catalogue, vertex_key, vertex_key_in, vertex_link, at_link}
 use Rattle.catalogue.specs.Numbers.{least}
 use Rattle.catalogue.specs.Live.{next_vertex, live_keys}
 use Rattle.catalogue.specs.Soundness.{Asks, vertex_sound, sound}
 use Rattle.catalogue.specs.Sweep.{swept, next_swept, swept_edges}
-use Rattle.catalogue.specs.declared.links.VertexLink.{VertexLink}
+use Rattle.std.proofs.Common.{Option}
+use Rattle.catalogue.specs.declared.links.Link.{Link}
 use Rattle.laws.proofs.Members.{map_all}
 use Rattle.resting.specs.Kept.{row}
 use Rattle.resting.proofs.Sound.{link_rises, vertices_sound}
@@ -31,8 +32,8 @@ module _ (asks : Asks) (C : Catalogue) (s : sound asks C ≡ true) (again : soun
   abbrev next : ℕ → ℕ
   next = next_vertex (swept C)
 
-  abbrev to : VertexLink → ℕ
-  to l = at_vertex l 1 (λ next tag. next)
+  abbrev to : Option (Link ℕ) → ℕ
+  to l = at_link l 1 (λ next tag. next)
 
   rises : (x : ℕ) → vertex_sound (swept C) x ≡ true → key x <ℤ key (next x)
   rises x e = link_rises (key x) key (vertex_link (swept C) x) e

@@ -8,17 +8,13 @@ use borrow.Author.Tests.{ne_eqb, le-leb, lt-ltb}
 use lib.Dec.{eqb, leb, ltb}
 use lib.ListN.{length}
 use Rattle.catalogue.specs.Tests.{pick}
-use Rattle.catalogue.specs.Catalogue.{Catalogue, vertex_key, vertex_link, edge_key, edge_link, edge_target, at_vertex, at_edge, at_target}
-use Rattle.catalogue.specs.Numbers.{plain}
+use Rattle.catalogue.specs.Catalogue.{Catalogue, vertex_key, vertex_link, edge_key, edge_link, edge_target, at_link, at_target}
+use Rattle.catalogue.specs.Numbers.{plain, some_link}
 use Rattle.catalogue.specs.Live.{next_vertex, first_edge, next_edge, live_keys}
 use Rattle.catalogue.specs.Soundness.{Asks, sound}
 use Rattle.catalogue.specs.Sweep.{swept, swept_edges, source_at}
-use Rattle.catalogue.specs.declared.links.VertexLink.{VertexLink}
-use Rattle.catalogue.specs.declared.links.VertexLink.TheVariants as vertex
-use Rattle.catalogue.specs.declared.links.EdgeLink.{EdgeLink}
-use Rattle.catalogue.specs.declared.links.EdgeLink.TheVariants as edge
-use Rattle.catalogue.specs.declared.links.Target.{Target}
-use Rattle.catalogue.specs.declared.links.Target.TheVariants as target
+use Rattle.std.proofs.Common.{Option, Some}
+use Rattle.catalogue.specs.declared.links.Link.{Link}
 use Rattle.laws.proofs.Picks.{clash}
 use Rattle.resting.proofs.SweptReads.{head_at, vertex_at, handed_out}
 use Rattle.resting.proofs.Shares.{link_row, first_link_row, Fits}
@@ -63,13 +59,10 @@ module _ (C : Catalogue) where
   first_is u a b = rw (le-leb 2 u a, lt-ltb u (2 + count) b) refl
 
 -- a link that is whole is what is read of it
-vertex_whole : (l : VertexLink) (y tag : ℕ) → l ≡ vertex.At y tag → l ≡ vertex.At (at_vertex l 1 (λ next t. next)) tag
-vertex_whole l y tag q = rw q refl
+link_whole : (end : ℕ) (l : Option (Link ℕ)) (y tag : ℕ) → l ≡ some_link y tag → l ≡ some_link (at_link l end (λ next t. next)) tag
+link_whole end l y tag q = rw q refl
 
-edge_whole : (l : EdgeLink) (y tag : ℕ) → l ≡ edge.At y tag → l ≡ edge.At (at_edge l 0 (λ next t. next)) tag
-edge_whole l y tag q = rw q refl
-
-target_whole : (l : Target) (y : ℕ) → l ≡ target.At y → l ≡ target.At (at_target l 0 (λ z. z))
+target_whole : (l : Option ℕ) (y : ℕ) → l ≡ Some y → l ≡ Some (at_target l 0 (λ z. z))
 target_whole l y q = rw q refl
 
 module _ (asks : Asks) (C : Catalogue) (s : sound asks C ≡ true) where
@@ -85,7 +78,7 @@ module _ (asks : Asks) (C : Catalogue) (s : sound asks C ≡ true) where
         edges_fit = omega (arith, handed.1, fits.edges_few);
         vkeys = λ x h. refl;
         vlinks = next_there;
-        firsts = λ x a b. rw (first_is C x a b) (edge_whole _ _ _ (first_link_row fits x (a, b)));
+        firsts = λ x a b. rw (first_is C x a b) (link_whole 0 _ _ _ (first_link_row fits x (a, b)));
         ekeys = λ e h. refl;
         elinks = λ e a h. rw (tag_is C e a) (edge_there e a (omega arith));
         targets = λ e a h. target_whole _ _ (leads fits e a (omega arith)).read;
@@ -94,12 +87,12 @@ module _ (asks : Asks) (C : Catalogue) (s : sound asks C ≡ true) where
       handed : ((swept C).counts.vertices ≡ count C) × ((swept C).counts.edges ≡ edge_count C)
       handed = handed_out (live_keys C) (swept_edges C)
 
-      next_there : (x : ℕ) → x < 2 + count C → (x ≡ 1 → ⊥) → vertex_link (swept C) x ≡ vertex.At (next_vertex (swept C) x) plain
+      next_there : (x : ℕ) → x < 2 + count C → (x ≡ 1 → ⊥) → vertex_link (swept C) x ≡ some_link (next_vertex (swept C) x) plain
       next_there x h d =
           elim (same? x 0) [
-            | inl q ↦ rw q (vertex_whole _ _ _ (head_at (live_keys C) (swept_edges C) fits.few))
-            | inr n ↦ vertex_whole _ _ _ (vertex_at (live_keys C) (swept_edges C) fits.few x (omega arith) h)
+            | inl q ↦ rw q (link_whole 1 _ _ _ (head_at (live_keys C) (swept_edges C) fits.few))
+            | inr n ↦ link_whole 1 _ _ _ (vertex_at (live_keys C) (swept_edges C) fits.few x (omega arith) h)
           ]
 
-      edge_there : (e : ℕ) → 1 ≤ e → e ≤ edge_count C → edge_link (swept C) e ≡ edge.At (next_edge (swept C) e) (edge_tag_of added)
-      edge_there e a h = let p = source_row fits e a h in edge_whole _ _ _ (link_row fits (source_at (swept_edges C) e) (source_in fits e a h) e p.0 p.1)
+      edge_there : (e : ℕ) → 1 ≤ e → e ≤ edge_count C → edge_link (swept C) e ≡ some_link (next_edge (swept C) e) (edge_tag_of added)
+      edge_there e a h = let p = source_row fits e a h in link_whole 0 _ _ _ (link_row fits (source_at (swept_edges C) e) (source_in fits e a h) e p.0 p.1)

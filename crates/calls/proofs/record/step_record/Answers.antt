@@ -2,8 +2,8 @@
 use Rattle.calls.proofs.Stepping.{record_step, written_is}
 use Rattle.calls.proofs.record.step_record.Goals as goal
 
-pub commit-requires-clause-writable : goal.commit-requires-clause-writable
-commit-requires-clause-writable c = search record_step
+pub commit-requires : goal.commit-requires
+commit-requires c = search record_step
 
 pub record_after-worker-requires : goal.record_after-worker-requires
 record_after-worker-requires c = search record_step

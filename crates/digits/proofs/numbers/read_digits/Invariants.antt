@@ -1,12 +1,10 @@
 use Rattle.digits.proofs.Readings.{Reading}
-use mathlib.Core.Path.{◌≡◌}
 use Prim.Native.Nat.{◌-◌}
 use lib.ListN.{length}
-use Rattle.digits.specs.Digits.{digit_at}
 use Rattle.digits.proofs.numbers.read_digits.Given as goal
 
 abbrev pub invariant-loop-digit : goal.invariant-loop-digit
-invariant-loop-digit l = (l.digit ≡ digit_at l.text l.place) × Reading l.text l.at l.place l.sum
+invariant-loop-digit l = Reading l.text l.at l.place l.sum
 
 abbrev pub decreases-loop-digit : goal.decreases-loop-digit
 decreases-loop-digit l = length l.text - l.place

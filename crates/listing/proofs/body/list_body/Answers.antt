@@ -2,8 +2,8 @@
 use Rattle.listing.proofs.Whole.{whole_cases}
 use Rattle.listing.proofs.body.list_body.Goals as goal
 
-pub list_edges-requires-clause-x_in_bounds : goal.list_edges-requires-clause-x_in_bounds
-list_edges-requires-clause-x_in_bounds c = search whole_cases
+pub list_edges-requires : goal.list_edges-requires
+list_edges-requires c = search whole_cases
 
 pub returns-clause-output_after : goal.returns-clause-output_after
 returns-clause-output_after c = search whole_cases

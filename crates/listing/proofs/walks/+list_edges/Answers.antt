@@ -14,11 +14,11 @@ returns-then-x-eq1-clause-output_after t c = search gather_cases
 pub returns-then-x-eq1-clause-value : goal.returns-then-x-eq1-clause-value
 returns-then-x-eq1-clause-value t c = search gather_cases
 
-pub list_edges_of-end-requires-clause-e_in_bounds : goal.list_edges_of-end-requires-clause-e_in_bounds
-list_edges_of-end-requires-clause-e_in_bounds t c = search gather_cases
+pub list_edges_of-end-requires : goal.list_edges_of-end-requires
+list_edges_of-end-requires t c = search gather_cases
 
 pub list_edges-requires : goal.list_edges-requires
-list_edges-requires t c = (search gather_cases, (search gather_cases, (search gather_cases, search gather_cases)))
+list_edges-requires t c = search gather_cases
 
 pub returns-then-unmarked-clause-output_after : goal.returns-then-unmarked-clause-output_after
 returns-then-unmarked-clause-output_after t c = search edges_put
@@ -30,7 +30,7 @@ pub returns-then-unmarked-clause-upper_bound : goal.returns-then-unmarked-clause
 returns-then-unmarked-clause-upper_bound t c = search gather_cases
 
 pub list_edges-requires-2 : goal.list_edges-requires-2
-list_edges-requires-2 t c = (search gather_cases, (search gather_cases, (search gather_cases, search gather_cases)))
+list_edges-requires-2 t c = search gather_cases
 
 pub returns-clause-output_after : goal.returns-clause-output_after
 returns-clause-output_after t c = search gather_cases

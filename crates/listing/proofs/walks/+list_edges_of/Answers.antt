@@ -14,14 +14,14 @@ returns-then-e-eq0-clause-output_after t c = search list_cases
 pub returns-then-e-eq0-clause-value : goal.returns-then-e-eq0-clause-value
 returns-then-e-eq0-clause-value t c = search list_cases
 
-pub edge_key-key-requires-clause-n_bound : goal.edge_key-key-requires-clause-n_bound
-edge_key-key-requires-clause-n_bound t c = search list_cases
+pub edge_key-key-requires : goal.edge_key-key-requires
+edge_key-key-requires t c = search list_cases
 
 pub put_pair-end-requires : goal.put_pair-end-requires
 put_pair-end-requires t c = search list_cases
 
 pub list_edges_of-requires : goal.list_edges_of-requires
-list_edges_of-requires t c = (search list_cases, (search list_cases, (search list_cases, search list_cases)))
+list_edges_of-requires t c = search list_cases
 
 pub returns-then-is_live-clause-output_after : goal.returns-then-is_live-clause-output_after
 returns-then-is_live-clause-output_after t c = search list_cases

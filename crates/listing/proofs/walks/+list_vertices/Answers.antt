@@ -15,7 +15,7 @@ pub returns-then-x-eq1-clause-value : goal.returns-then-x-eq1-clause-value
 returns-then-x-eq1-clause-value t c = search list_cases
 
 pub list_vertices-requires : goal.list_vertices-requires
-list_vertices-requires t c = (search list_cases, (search list_cases, (search list_cases, search list_cases)))
+list_vertices-requires t c = search list_cases
 
 pub returns-then-unmarked-clause-output_after : goal.returns-then-unmarked-clause-output_after
 returns-then-unmarked-clause-output_after t c = search list_cases

@@ -1,18 +1,6 @@
--- Each way out is a case of the definition, by what the walks found.
-use Rattle.survey.proofs.SoundLaws.{sound_cases}
+-- The set of a sound walk is ready to answer for targets.
+use Rattle.survey.proofs.MetLaws.{ready}
 use Rattle.survey.proofs.soundness.sound.Goals as goal
 
-pub lists_from-requires-clause-ready : goal.lists_from-requires-clause-ready
-lists_from-requires-clause-ready c = search sound_cases
-
-pub returns-then-whole : goal.returns-then-whole
-returns-then-whole c = search sound_cases
-
-pub returns-then-vertex_sound : goal.returns-then-vertex_sound
-returns-then-vertex_sound c = search sound_cases
-
-pub returns-then-unmarked : goal.returns-then-unmarked
-returns-then-unmarked c = search sound_cases
-
-pub returns : goal.returns
-returns c = search sound_cases
+pub invariant_of-lists_from : goal.invariant_of-lists_from
+invariant_of-lists_from c = search ready

@@ -2,11 +2,11 @@
 use Rattle.sweep.proofs.CopyLaws.{edge_copy}
 use Rattle.sweep.proofs.copies.copy_edge.Goals as goal
 
-pub edge_key-key-requires-clause-n_bound : goal.edge_key-key-requires-clause-n_bound
-edge_key-key-requires-clause-n_bound c = search edge_copy
+pub edge_key-key-requires : goal.edge_key-key-requires
+edge_key-key-requires c = search edge_copy
 
-pub target_number-target-requires-clause-e_bound : goal.target_number-target-requires-clause-e_bound
-target_number-target-requires-clause-e_bound c = search edge_copy
+pub target_number-target-requires : goal.target_number-target-requires
+target_number-target-requires c = search edge_copy
 
 pub add_edge-requires-clause-n_bound : goal.add_edge-requires-clause-n_bound
 add_edge-requires-clause-n_bound c = search edge_copy

@@ -3,5 +3,5 @@ use Rattle.sweep.proofs.NodeLaws.{edge_writable}
 use Rattle.std.proofs.Common.{rules}
 use Rattle.sweep.proofs.nodes.add_edge.Goals as goal
 
-pub commit-requires-clause-writable : goal.commit-requires-clause-writable
-commit-requires-clause-writable c = search (edge_writable, rules)
+pub commit-requires : goal.commit-requires
+commit-requires c = search (edge_writable, rules)

@@ -2,26 +2,14 @@
 use Rattle.sweep.proofs.EdgeCases.{edge_cases}
 use Rattle.sweep.proofs.walks.+sweep_edges_of.Goals as goal
 
-pub returns-then-fuel-eq0-clause-new_words_after : goal.returns-then-fuel-eq0-clause-new_words_after
-returns-then-fuel-eq0-clause-new_words_after t c = search edge_cases
-
 pub returns-then-fuel-eq0-clause-value : goal.returns-then-fuel-eq0-clause-value
 returns-then-fuel-eq0-clause-value t c = search edge_cases
-
-pub returns-then-e-eq0-clause-new_words_after : goal.returns-then-e-eq0-clause-new_words_after
-returns-then-e-eq0-clause-new_words_after t c = search edge_cases
 
 pub returns-then-e-eq0-clause-value : goal.returns-then-e-eq0-clause-value
 returns-then-e-eq0-clause-value t c = search edge_cases
 
-pub copy_edge-after-requires-clause-tip_bound : goal.copy_edge-after-requires-clause-tip_bound
-copy_edge-after-requires-clause-tip_bound t c = search edge_cases
-
 pub sweep_edges_of-requires : goal.sweep_edges_of-requires
-sweep_edges_of-requires t c = (search edge_cases, (search edge_cases, (search edge_cases, (search edge_cases, (search edge_cases, search edge_cases)))))
-
-pub returns-clause-new_words_after : goal.returns-clause-new_words_after
-returns-clause-new_words_after t c = search edge_cases
+sweep_edges_of-requires t c = (search edge_cases, search edge_cases)
 
 pub returns-clause-value : goal.returns-clause-value
 returns-clause-value t c = search edge_cases

@@ -2,8 +2,5 @@
 use Rattle.text.proofs.Spelling.{Spelling}
 use Rattle.text.proofs.puts.spell.Given as goal
 
-abbrev pub invariant-loop-rest : goal.invariant-loop-rest
-invariant-loop-rest l = Spelling l.n l.scratch l.first l.rest
-
-abbrev pub decreases-loop-rest : goal.decreases-loop-rest
-decreases-loop-rest l = l.rest
+abbrev pub invariant-loop-first : goal.invariant-loop-first
+invariant-loop-first l = Spelling l.n l.scratch l.first l.rest

@@ -1,6 +1,16 @@
--- A word has at most 64 ones, so the sums fit, and the four words' ones are the numbers in the set.
-use Rattle.laws.proofs.MetLaws.{count_is}
+-- A word has at most 64 ones, so the sum fits, and the four words' ones are the numbers in the set.
+use Rattle.std.proofs.Common.{rules, ◌≡◌, ◌∙◌, ◌<◌, ◌^◌, sum_by}
+use lib.Count.{ones}
+use Rattle.workers.proofs.Ones.{ones_fit, ones_count}
 use Rattle.workers.proofs.met.met_count.Goals as goal
 
+pub sum-requires-clause-fits : goal.sum-requires-clause-fits
+sum-requires-clause-fits c =
+    let words = c.iter.result.rest.now in
+    let few : sum_by ones words < 2 ^ 32 = ones_fit words (search rules) (search rules) (search rules) (search rules) (search rules) in
+    search rules
+
 pub returns : goal.returns
-returns c = count_is c.args.met c.element_fits.fits c.element_fits2.fits c.element_fits3.fits c.element_fits4.fits
+returns c =
+    let sum : c.sum.result ≡ sum_by ones c.args.met = search rules in
+    sum ∙ ones_count c.args.met (search rules) (search rules) (search rules) (search rules) (search rules)

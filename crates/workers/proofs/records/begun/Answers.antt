@@ -2,5 +2,5 @@
 use Rattle.laws.proofs.MetLaws.{none_met}
 use Rattle.workers.proofs.records.begun.Goals as goal
 
-pub meet-reach-requires-clause-n_value : goal.meet-reach-requires-clause-n_value
-meet-reach-requires-clause-n_value c = rw c.no_reach-before.ensures (none_met c.args.v)
+pub meet-requires-clause-n_value : goal.meet-requires-clause-n_value
+meet-requires-clause-n_value c = rw c.no_reach.ensures (none_met c.args.v)
