@@ -1,17 +1,23 @@
 // A refusal, as the calls share it.
-ghost use Rattle.std.specs.Prelude.{◌≡◌};
+ghost use Rattle.std.specs.Prelude.{◌≡◌, ◌<◌, IfOk};
 ghost use Rattle.catalogue.specs.Answers.{refusal_number};
 ghost use Rattle.calls.specs.Promised.{or_refused};
 
-use catalogue::answers::{Outcome, Refusal};
+use catalogue::answers::{Outcome, Refusal, Stepped};
 use catalogue::workers::Table;
+use workers::table::put;
 
+// The worker's record is put into the table here and not before, so that no table is moved inside a result.
 // A refusal returns the table unchanged.
-pub fn or_refused(table: Table, made: Result<Outcome, Refusal>) -> Outcome
-    ensures { result ≡ or_refused table made }
+pub fn or_refused(table: Table, worker: u32, made: Result<Stepped, Refusal>) -> Outcome
+    requires { IfOk made (λ s. worker < 8) }
+    ensures { result ≡ or_refused table worker made }
 {
     match made {
-        Ok(outcome) => outcome,
+        Ok(s) => Outcome {
+            table: put(table, worker as usize, s.worker),
+            answer: s.answer,
+        },
         Err(refusal) => Outcome {
             table,
             answer: Err(refusal),
