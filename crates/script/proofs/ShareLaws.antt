@@ -73,32 +73,32 @@ pub starts_pair : (text : List ℕ) (count : ℕ) (counts : List ℕ) (n at : �
 unfolding starts_at
 starts_pair text count counts n at = refl
 
-onto_none : (o : Read (List Share × ℕ)) → onto [] o ≡ o
-onto_none (bad n) = refl
-onto_none (good r) = refl
-
 onto_pair : (front : List Share) (s : Share) (o : Read (List Share × ℕ)) → onto (front ++ (s ∷ [])) o ≡ onto front (and_then o (λ r. good (s ∷ r.0, r.1)))
 onto_pair front s (bad n) = refl
 onto_pair front s (good r) = rw (append_assoc front (s ∷ []) r.0)
 
--- the lines of the workers below w were read, and what is asked of the others is what is left
-pub record Shared (text : List ℕ) (workers line at : ℕ) (counts : List ℕ) (w n place : ℕ) (found : List Share) : Type 0 where
+-- what is asked of the workers from w on, behind what was found of those before
+abbrev pub asked : List ℕ → ℕ → List ℕ → ℕ → ℕ → ℕ → List Share → Read (List Share × ℕ)
+asked text workers counts w n place found = onto (take w found) (starts_at text (drop w (take workers counts)) n place)
+
+-- the lines of the workers below w were read, and what is asked of the others is what was asked at first
+pub record Shared (whole : Read (List Share × ℕ)) (text : List ℕ) (workers : ℕ) (counts : List ℕ) (w n place : ℕ) (found : List Share) : Type 0 where
   pub sharing : Sharing workers w n counts
   pub found_long : length found ≡ 8
-  pub same : onto (take w found) (starts_at text (drop w (take workers counts)) n place) ≡ starts_at text (take workers counts) line at
+  pub same : asked text workers counts w n place found ≡ whole
 
-module _ (text : List ℕ) (workers line at : ℕ) (counts : List ℕ) where
+module _ (text : List ℕ) (workers : ℕ) (counts : List ℕ) (w n place : ℕ) (found : List Share) where
   abbrev own : List ℕ
   own = take workers counts
 
-  pub shared_none : (found : List Share) → Sharing workers 0 line counts → length found ≡ 8 → Shared text workers line at counts 0 line at found
-  shared_none found k l = record { sharing = k; found_long = l; same = onto_none (starts_at text own line at) }
+  pub shared_none : Sharing workers w n counts → length found ≡ 8 → Shared (asked text workers counts w n place found) text workers counts w n place found
+  shared_none k l = record { sharing = k; found_long = l; same = refl }
 
-  module _ (w n place : ℕ) (found : List Share) (k : Shared text workers line at counts w n place found) where
+  module _ (whole : Read (List Share × ℕ)) (k : Shared whole text workers counts w n place found) where
     own_long : length own ≡ workers
     own_long = length-take-le workers counts (omega (arith, k.sharing.few, k.sharing.counts_long))
 
-    pub shares_end : workers ≤ w → good (take workers found, place) ≡ starts_at text own line at
+    pub shares_end : workers ≤ w → good (take workers found, place) ≡ whole
     shares_end h =
         let s : w ≡ workers = omega (arith, k.sharing.within) in
         rw (s, drop_of_length-le own {i = workers} (omega (arith, own_long)), starts_none, append-nil) at k.same
@@ -121,13 +121,13 @@ module _ (text : List ℕ) (workers line at : ℕ) (counts : List ℕ) where
 
       module _ (r : Result ℕ BadLine) (e : r ≡ skip_at text count n place) where
         opened_shares : onto (take w found) (at_skipped r bad (λ next. and_then (starts_at text (drop (w + 1) own) (n + count) next) (λ s. good (here ∷ s.0, s.1))))
-            ≡ starts_at text own line at
+            ≡ whole
         opened_shares = rw (ahead, starts_pair text count (drop (w + 1) own) n place, sym e) at k.same
 
-        pub shares_bad : (b : BadLine) (o : Result Shares BadLine) → r ≡ Err b → o ≡ Err b → starts_told workers o ≡ starts_at text own line at
+        pub shares_bad : (b : BadLine) (o : Result Shares BadLine) → r ≡ Err b → o ≡ Err b → starts_told workers o ≡ whole
         shares_bad b o q d = rw d (rw q at opened_shares)
 
-        pub shares_on : (next : ℕ) → r ≡ Ok next → Shared text workers line at counts (w + 1) (n + count) next (set found w here)
+        pub shares_on : (next : ℕ) → r ≡ Ok next → Shared whole text workers counts (w + 1) (n + count) next (set found w here)
         shares_on next q =
             let within : w < length found = omega (arith, k.sharing.few, k.found_long) in
             let front : take (w + 1) (set found w here) ≡ take w found ++ (here ∷ []) =

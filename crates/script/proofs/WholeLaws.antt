@@ -19,7 +19,7 @@ use Rattle.catalogue.specs.declared.workers.Request.{Request}
 use Rattle.laws.proofs.Picks.{clash}
 use Rattle.script.specs.Lines.{line_at}
 use Rattle.script.specs.Headers.{told, numbered, header_line}
-use Rattle.script.specs.Shares.{at_skipped, skip_at, share, starts_at, starts_told}
+use Rattle.script.specs.Shares.{at_skipped, skip_at, share, starts_at, onto, starts_told}
 use Rattle.script.specs.Turns.{as_after, schedule_at}
 use Rattle.script.specs.Checks.{requests_at, counts_of, share_of, turns_from, IsScript, Answers, no_script, ending_at}
 use Rattle.script.specs.declared.headers.Heading.{Heading}
@@ -96,19 +96,27 @@ module _ (text : List ℕ) where
         by None q = refl
         by (Some r) q = clash (cc)
 
-    module _ (h : Heading) (g : o ≡ Some h) (sr : Result Shares BadLine) (d : starts_told h.workers sr ≡ starts_at text (take h.workers h.counts) 2 h.next) where
+    module _ (h : Heading) (g : o ≡ Some h) (sr : Result Shares BadLine) (asked : starts_told h.workers sr ≡ onto [] (starts_at text (take h.workers h.counts) 2 h.next)) where
       k : Headed text h
       k = headed text o e h g
 
+      -- no worker stands before the first
+      starts_are : starts_told h.workers sr ≡ starts_at text (counts text h k) 2 h.next
+      starts_are = asked ∙ by (starts_at text (counts text h k) 2 h.next)
+        where
+          by : (o : Read (List Share × ℕ)) → onto [] o ≡ o
+          by (bad n) = refl
+          by (good r) = refl
+
       requests_read : read_script text ≡ at_skipped (skipped_of (starts_told h.workers sr)) bad (scheduling text h k)
-      requests_read = by_lines ∙ lines_read text h k ∙ rw (starts_skip text (counts text h k) 2 h.next, d)
+      requests_read = by_lines ∙ lines_read text h k ∙ rw (starts_skip text (counts text h k) 2 h.next, starts_are)
 
       pub request_bad : (b : BadLine) → sr ≡ Err b → (r : Result Checked BadLine) → r ≡ Err b → Answers text r
       request_bad b q r f = rw f (requests_read ∙ rw q)
 
       module _ (sh : Shares) (q : sr ≡ Ok sh) where
         started : starts_at text (counts text h k) 2 h.next ≡ good (take h.workers sh.shares, sh.next)
-        started = sym d ∙ rw q
+        started = sym starts_are ∙ rw q
 
         first : (share_of sh.shares 0).start ≡ h.next
         first =

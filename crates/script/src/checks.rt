@@ -49,6 +49,7 @@ pub fn check(text: &[u8]) -> Result<Checked, BadLine>
         return Err(BadLine { line: 0 });
     }
     let h = read_header(text).ok_or(BadLine { line: 1 })?;
-    let shares = read_shares(text, h.next, h.workers, 2, h.counts)?;
+    let none = [Share { start: 0, count: 0 }; 8];
+    let shares = read_shares(text, h.next, h.workers, 0, 2, h.counts, none)?;
     check_end(text, h, shares)
 }

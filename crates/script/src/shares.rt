@@ -1,6 +1,6 @@
 // The request lines, checked in the order in which they stand, and where each worker's begin.
-ghost use Rattle.std.specs.Prelude.{◌≡◌, ◌+◌, ◌≤◌, take};
-ghost use Rattle.script.specs.Shares.{Sharing, skip_at, starts_at, starts_told};
+ghost use Rattle.std.specs.Prelude.{◌≡◌, ◌+◌, ◌≤◌, take, drop};
+ghost use Rattle.script.specs.Shares.{Sharing, skip_at, starts_at, starts_told, onto};
 
 use crate::bad_line::BadLine;
 use crate::requests::read_request;
@@ -35,24 +35,26 @@ fn skip(text: &[u8], at: usize, count: u32, line: u32) -> Result<usize, BadLine>
     Ok(place)
 }
 
-// The lines of all workers, of which the first has the number `line`.
+// The lines of the workers from w on, of which the first has the number `line`. The shares of those before w are kept.
 #[tactic(auto, using(crate::proofs::ShareLaws::share_cases))]
 pub fn read_shares(
     text: &[u8],
     at: usize,
     workers: u32,
+    w: u32,
     line: u32,
     counts: [u32; 8],
+    before: [Share; 8],
 ) -> Result<Shares, BadLine>
-    requires { Sharing workers 0 line counts }
-    ensures { starts_told workers result ≡ starts_at text.now (take workers counts) line at }
+    requires { Sharing workers w line counts }
+    ensures { starts_told workers result ≡ onto (take w before) (starts_at text.now (drop w (take workers counts)) line at) }
 {
-    let mut shares = [Share { start: 0, count: 0 }; 8];
+    let mut shares = before;
     let mut place = at;
     let mut first = line;
-    for w in 0..workers {
-        let count = counts[w as usize];
-        shares[w as usize] = Share {
+    for n in w..workers {
+        let count = counts[n as usize];
+        shares[n as usize] = Share {
             start: place,
             count,
         };

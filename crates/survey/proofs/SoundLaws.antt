@@ -1,5 +1,5 @@
 -- The whole survey by what its walks found.
-use Rattle.std.proofs.Common.{Option, Some, None, List}
+use Rattle.std.proofs.Common.{Result, Ok, Err, List}
 use Prim.Native.Nat.{ℕ, ◌+◌}
 use mathlib.Core.Bool.{Bool, true, false}
 use mathlib.Core.Path.{◌≡◌, refl, sym, ◌∙◌, ap}
@@ -14,7 +14,7 @@ use Rattle.catalogue.specs.Live.{walk, next_vertex, vertices, unmarked, live_ver
 use Rattle.catalogue.specs.Soundness.{Asks, vertex_sound, edges_sound, sound}
 use Rattle.laws.proofs.Gathers.{live_many}
 use Rattle.survey.proofs.MetLaws.{ready}
-use Rattle.survey.proofs.WalkLaws.{told_some, told_none}
+use Rattle.survey.proofs.WalkLaws.{told_ok, told_err}
 use Rattle.survey.specs.Walks.{met_of, found, walk_from, lists_from}
 
 -- the four tests of the survey, in their order
@@ -41,18 +41,19 @@ module _ (asks : Asks) (C : Catalogue) where
       pub sound_head : v ≡ false → false ≡ sound asks C
       sound_head p = by_parts true false _ _ (sym q ∙ e) (sym p ∙ f) refl refl
 
-      module _ (p : v ≡ true) (y : ℕ) (g : y ≡ next_vertex C 0) (w : Option (List ℕ)) (h : w ≡ walk_from C 256 y) where
+      module _ (p : v ≡ true) (y : ℕ) (g : y ≡ next_vertex C 0) (w : Result (List ℕ) (List ℕ)) (h : w ≡ walk_from C 256 y) where
         walked_all : w ≡ found (vertex_sound C) (vertices C)
         unfolding walk_from
         walked_all = h ∙ ap (λ (z : ℕ). found (vertex_sound C) (walk (next_vertex C) tail vertex_pool z)) g
 
-        pub sound_walk : w ≡ None → false ≡ sound asks C
-        sound_walk s =
-            by_parts true true false _ (sym q ∙ e) (sym p ∙ f) (sym (told_none (every (vertex_sound C) (vertices C)) (met_of (vertices C)) (sym s ∙ walked_all))) refl
+        pub sound_walk : (met : List ℕ) → w ≡ Err met → false ≡ sound asks C
+        sound_walk met s =
+            by_parts true true false _ (sym q ∙ e) (sym p ∙ f)
+            (sym (told_err (every (vertex_sound C) (vertices C)) (met_of (vertex_sound C) (vertices C)) met (sym s ∙ walked_all)).0) refl
 
-        pub sound_lists : (met : List ℕ) (r : Bool) → w ≡ Some met → r ≡ lists_from asks C 0 256 y → r ≡ sound asks C
+        pub sound_lists : (met : List ℕ) (r : Bool) → w ≡ Ok met → r ≡ lists_from asks C 0 256 y → r ≡ sound asks C
         sound_lists met r s k =
             by_parts true true true r (sym q ∙ e) (sym p ∙ f)
-            (sym (told_some (every (vertex_sound C) (vertices C)) (met_of (vertices C)) met (sym s ∙ walked_all)).0) (k ∙ ap (lists_from asks C 0 256) g)
+            (sym (told_ok (every (vertex_sound C) (vertices C)) (met_of (vertex_sound C) (vertices C)) met (sym s ∙ walked_all)).0) (k ∙ ap (lists_from asks C 0 256) g)
 
 pub ruleset sound_cases = (sound_marked, sound_head, sound_walk, sound_lists, ready, rules)

@@ -54,5 +54,5 @@ met_on keys words met y r e m h = e ∙ m.on y h.fits
 
 pub ruleset told_ways = (told_true, told_false, met_on, sweep_fits, listing_fits, lt_z_both, lt_z_says, eq_z_both_true, eq_z_both_false, edge_to, ways)
 
--- the reads and the tests of a target, and no more: so a search that fails has tried every way
+-- the reads and the tests of a target, and no more
 pub ruleset target_ways = (on_true, on_false, eq_z_both_true, eq_z_both_false, link_at, link_torn, eq-eqb, ne_eqb, met_on, sfits_of)

@@ -1,5 +1,5 @@
 -- What a walk finds from a node on, by what it finds there and from the next node on.
-use Rattle.std.proofs.Common.{Option, Some, None}
+use Rattle.std.proofs.Common.{Some, None, Result, Ok, Err}
 use Prim.Native.Nat.{ℕ, ◌-◌, ◌<◌}
 use mathlib.Core.Bool.{Bool, true, false}
 use mathlib.Core.List.{List, ◌∷◌}
@@ -24,45 +24,51 @@ module _ {A : Type 0} (t : Bool) (a : A) where
   pub told_none : None ≡ pick t (Some a) None → t ≡ false
   told_none = pick_both (λ o. None ≡ o → t ≡ false) t (Some a) None (λ h e. clash (cc)) (λ h e. h)
 
+  pub told_ok : (b : A) → Ok b ≡ pick t (Ok a) (Err a) → (t ≡ true) × (b ≡ a)
+  told_ok b = pick_both (λ o. Ok b ≡ o → (t ≡ true) × (b ≡ a)) t (Ok a) (Err a) (λ h e. (h, cc)) (λ h e. clash (cc))
+
+  pub told_err : (b : A) → Err b ≡ pick t (Ok a) (Err a) → (t ≡ false) × (b ≡ a)
+  told_err b = pick_both (λ o. Err b ≡ o → (t ≡ false) × (b ≡ a)) t (Ok a) (Err a) (λ h e. clash (cc)) (λ h e. (h, cc))
+
 -- The vertex walk.
 module _ (test : ℕ → Bool) where
-  found_on : (x : ℕ) (l met : List ℕ) → test x ≡ true → Some met ≡ found test l → Some (also_met met x) ≡ found test (x ∷ l)
-  unfolding every met_of
-  found_on x l met s g = let told = told_some (every test l) (met_of l) met g in rw (s, told.0, told.1) refl
+  module _ (x : ℕ) (l : List ℕ) where
+    found_on : (met : List ℕ) → test x ≡ true → Ok met ≡ found test l → Ok (also_met met x) ≡ found test (x ∷ l)
+    unfolding every met_of
+    found_on met s g = let told = told_ok (every test l) (met_of test l) met g in rw (s, told.0, told.1) refl
 
-  found_stop : (x : ℕ) (l : List ℕ) → test x ≡ true → None ≡ found test l → None ≡ found test (x ∷ l)
-  unfolding every
-  found_stop x l s g = rw (s, told_none (every test l) (met_of l) g) refl
+    found_stop : (met : List ℕ) → test x ≡ true → Err met ≡ found test l → Err (also_met met x) ≡ found test (x ∷ l)
+    unfolding every met_of
+    found_stop met s g = let told = told_err (every test l) (met_of test l) met g in rw (s, told.0, told.1) refl
 
-  found_off : (x : ℕ) (l : List ℕ) → test x ≡ false → None ≡ found test (x ∷ l)
-  unfolding every
-  found_off x l s = rw s refl
+    found_off : test x ≡ false → Err (replicate 4 0) ≡ found test (x ∷ l)
+    unfolding every met_of
+    found_off s = rw s refl
 
 module _ (C : Catalogue) (left x : ℕ) where
-  pub from_spent : left ≡ 0 → Some (replicate 4 0) ≡ walk_from C left x
+  pub from_spent : left ≡ 0 → Ok (replicate 4 0) ≡ walk_from C left x
   unfolding walk_from every met_of
   from_spent e = sym (ap (found (vertex_sound C)) (walk_spent (next_vertex C) tail left x e))
 
-  pub from_end : x ≡ 1 → Some (replicate 4 0) ≡ walk_from C left x
+  pub from_end : x ≡ 1 → Ok (replicate 4 0) ≡ walk_from C left x
   unfolding walk_from every met_of
   from_end e = sym (ap (found (vertex_sound C)) (walk_end (next_vertex C) tail left x e))
 
   module _ (t : Bool) (on : left ≡ 0 → ⊥) (short : x ≡ 1 → ⊥) (e : t ≡ vertex_sound C x) where
-    module _ (q : t ≡ true) (y : ℕ) (f : y ≡ next_vertex C x) (rest : Option (List ℕ)) (g : rest ≡ walk_from C (left - 1) y) where
-      pub from_on : (met m : List ℕ) → rest ≡ Some met → m ≡ also_met met x → Some m ≡ walk_from C left x
+    module _ (q : t ≡ true) (y : ℕ) (f : y ≡ next_vertex C x) (rest : Result (List ℕ) (List ℕ)) (g : rest ≡ walk_from C (left - 1) y) where
+      whole : found (vertex_sound C) (x ∷ walk (next_vertex C) tail (left - 1) y) ≡ walk_from C left x
       unfolding walk_from
-      from_on met m p h =
-          ap Some h
-          ∙ found_on (vertex_sound C) x (walk (next_vertex C) tail (left - 1) y) met (sym e ∙ q) (sym p ∙ g)
-          ∙ sym (ap (found (vertex_sound C)) (walk_on (next_vertex C) tail left x y on short f))
+      whole = sym (ap (found (vertex_sound C)) (walk_on (next_vertex C) tail left x y on short f))
 
-      pub from_stop : rest ≡ None → None ≡ walk_from C left x
+      pub from_on : (met m : List ℕ) → rest ≡ Ok met → m ≡ also_met met x → Ok m ≡ walk_from C left x
       unfolding walk_from
-      from_stop p =
-          found_stop (vertex_sound C) x (walk (next_vertex C) tail (left - 1) y) (sym e ∙ q) (sym p ∙ g)
-          ∙ sym (ap (found (vertex_sound C)) (walk_on (next_vertex C) tail left x y on short f))
+      from_on met m p h = ap Ok h ∙ found_on (vertex_sound C) x (walk (next_vertex C) tail (left - 1) y) met (sym e ∙ q) (sym p ∙ g) ∙ whole
 
-    pub from_off : t ≡ false → None ≡ walk_from C left x
+      pub from_stop : (met m : List ℕ) → rest ≡ Err met → m ≡ also_met met x → Err m ≡ walk_from C left x
+      unfolding walk_from
+      from_stop met m p h = ap Err h ∙ found_stop (vertex_sound C) x (walk (next_vertex C) tail (left - 1) y) met (sym e ∙ q) (sym p ∙ g) ∙ whole
+
+    pub from_off : t ≡ false → Err (replicate 4 0) ≡ walk_from C left x
     unfolding walk_from
     from_off q =
         found_off (vertex_sound C) x (walk (next_vertex C) tail (left - 1) (next_vertex C x)) (sym e ∙ q)

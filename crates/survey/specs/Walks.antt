@@ -1,5 +1,5 @@
 -- What the walks of the survey find from a node on, with so much of the walk left; and which call asks, by a flag.
-use Rattle.std.specs.Prelude.{ℕ, ◌+◌, ◌<◌, Bool, true, false, List, [], ◌∷◌, ◌≡◌, ℤ, length, replicate, leb, Option, Some, None}
+use Rattle.std.specs.Prelude.{ℕ, ◌+◌, ◌<◌, Bool, true, false, List, [], ◌∷◌, ◌≡◌, ℤ, length, replicate, leb, Option, Some, None, Result, Ok, Err}
 use Rattle.catalogue.specs.Tests.{pick, keep, every, member}
 use Rattle.catalogue.specs.Numbers.{vertex_pool, tail, edge_tail, most_edges}
 use Rattle.catalogue.specs.Catalogue.{Catalogue}
@@ -25,17 +25,17 @@ pub record Ready (keys : List ℤ) (words met : List ℕ) : Type 0 where
 unfoldable pub also_met : List ℕ → ℕ → List ℕ
 also_met met n = pick (has met n) met (with_met met n)
 
--- the members of a list, as a set
-unfoldable pub met_of : List ℕ → List ℕ
-met_of [] = replicate 4 0
-met_of (x ∷ xs) = also_met (met_of xs) x
+-- the members of a list before the first that does not pass, as a set
+unfoldable pub met_of : (ℕ → Bool) → List ℕ → List ℕ
+met_of test [] = replicate 4 0
+met_of test (x ∷ xs) = pick (test x) (also_met (met_of test xs) x) (replicate 4 0)
 
--- What a walk finds of a list of vertices: which they are, where all pass.
-abbrev pub found : (ℕ → Bool) → List ℕ → Option (List ℕ)
-found test l = pick (every test l) (Some (met_of l)) None
+-- What a walk finds of a list of vertices: whether all pass, and which were met up to the first that does not.
+abbrev pub found : (ℕ → Bool) → List ℕ → Result (List ℕ) (List ℕ)
+found test l = pick (every test l) (Ok (met_of test l)) (Err (met_of test l))
 
 -- the vertex walk from x on, where it has so many nodes left
-unfoldable pub walk_from : Catalogue → ℕ → ℕ → Option (List ℕ)
+unfoldable pub walk_from : Catalogue → ℕ → ℕ → Result (List ℕ) (List ℕ)
 walk_from C left x = found (vertex_sound C) (walk (next_vertex C) tail left x)
 
 -- What a walk finds of a list of edges: how many more are live, where all pass.

@@ -17,7 +17,7 @@ pub fn sound(lent: Lent, sweep: bool) -> bool
 {
     if unmarked(lent.words, 0) && vertex_sound(lent, 0) {
         let first = next_vertex(lent.words, 0);
-        let Some(met) = walk_from(lent, 256, first) else {
+        let Ok(met) = walk_from(lent, 256, first) else {
             return false;
         };
         return lists_from(Survey { lent, met, sweep }, 0, 256, first);

@@ -18,22 +18,24 @@ fn also_met(met: [u64; 4], n: u8) -> [u64; 4]
     with_met(met, n)
 }
 
-// The vertices that the walk met, where all are sound.
+// The vertices that the walk met: all of them, or those before the first that is not sound.
 // `left` is what the definition allows a walk: it ends there even if the links go round.
 #[tactic(auto, using(crate::proofs::WalkLaws::walk_cases))]
-pub fn walk_from(lent: Lent, left: u16, x: u8) -> Option<[u64; 4]>
+pub fn walk_from(lent: Lent, left: u16, x: u8) -> Result<[u64; 4], [u64; 4]>
     ensures { result ≡ walk_from (held lent.entry) left x }
 {
     if left == 0 {
-        return Some([0; 4]);
+        return Ok([0; 4]);
     }
     if x == 1 {
-        return Some([0; 4]);
+        return Ok([0; 4]);
     }
     if vertex_sound(lent, x) {
         let next = next_vertex(lent.words, x);
-        let met = walk_from(lent, left - 1, next)?;
-        return Some(also_met(met, x));
+        return match walk_from(lent, left - 1, next) {
+            Ok(met) => Ok(also_met(met, x)),
+            Err(met) => Err(also_met(met, x)),
+        };
     }
-    None
+    Err([0; 4])
 }

@@ -1,6 +1,9 @@
--- The rest of the walk is sound, so what it met and the node are what this walk met.
-use Rattle.survey.proofs.WalkLaws.{from_on}
+-- The walk goes on from the next node; its node joins what was met there, whether all of it is sound or not.
+use Rattle.survey.proofs.WalkLaws.{from_on, from_stop}
 use Rattle.survey.proofs.walks.+walk_from.Goals as goal
 
-pub returns-then-vertex_sound : goal.returns-then-vertex_sound
-returns-then-vertex_sound t c = search (from_on, c.in_ok-met.was)
+pub returns-in-Ok : goal.returns-in-Ok
+returns-in-Ok t c = search (from_on, c.in-Ok.is)
+
+pub returns-in-Err : goal.returns-in-Err
+returns-in-Err t c = search (from_stop, c.in-Err.is)
