@@ -1,27 +1,19 @@
 // A refusal, as the calls share it.
-ghost use Rattle.std.specs.Prelude.{◌≡◌, ◌<◌, IfOk};
+ghost use Rattle.std.specs.Prelude.{◌≡◌};
 ghost use Rattle.catalogue.specs.Answers.{refusal_number};
-ghost use Rattle.calls.specs.Promised.{or_refused};
+ghost use Rattle.catalogue.specs.Lent.{refused};
 
-use catalogue::answers::{Outcome, Refusal, Stepped};
+use catalogue::answers::{Outcome, Refusal};
 use catalogue::workers::Table;
-use workers::table::put;
 
-// The worker's record is put into the table here and not before, so that no table is moved inside a result.
-// A refusal returns the table unchanged.
-pub fn or_refused(table: Table, worker: u32, made: Result<Stepped, Refusal>) -> Outcome
-    requires { IfOk made (λ s. worker < 8) }
-    ensures { result ≡ or_refused table worker made }
+// A refusal returns the table unchanged. A call returns it where it sees the reason: a result that held a record would be
+// cleared and copied on its way, at each step.
+pub fn refuse(table: Table, refusal: Refusal) -> Outcome
+    ensures { result ≡ refused table refusal }
 {
-    match made {
-        Ok(s) => Outcome {
-            table: put(table, worker as usize, s.worker),
-            answer: s.answer,
-        },
-        Err(refusal) => Outcome {
-            table,
-            answer: Err(refusal),
-        },
+    Outcome {
+        table,
+        answer: Err(refusal),
     }
 }
 

@@ -25,7 +25,7 @@ use Rattle.border.specs.declared.kept.Kept.{Kept}
 use Rattle.border.specs.declared.kept.Record.{Record}
 use Rattle.border.proofs.Places.{worker_back}
 use Rattle.host.specs.Promised.{refuses, left_of, Leaves}
-use Rattle.host.specs.Moves.{refused, moved, or_refused}
+use Rattle.host.specs.Moves.{refused, moved, settled}
 use Rattle.host.specs.declared.one.Moved.{Moved}
 
 -- ---- the record in its table
@@ -66,11 +66,6 @@ module _ (t : Kept) (n : ℕ) where
 pub slot_is : (n : ℕ) → n < 8 → slot n ≡ n
 slot_is n h = omega (arith, h)
 
--- a step that has decided, as the call goes on from it
-abbrev pub settled : Worker → Result Answer Refusal → Result Moved Refusal
-settled w (Ok a) = Ok (moved w a)
-settled w (Err why) = Err why
-
 -- ---- what is stored back, for an outcome of the call on the table
 
 pub record Stores (t : Kept) (n : ℕ) (x : Moved) (o : Outcome) : Type 0 where
@@ -106,7 +101,7 @@ module _ (t : Kept) (n : ℕ) (r : Record) (there : record_at t (slot n) ≡ r) 
     }
 
     -- a refusal has left the worker as it was
-    pub stores_settled : (w : Worker) (a : Result Answer Refusal) → (refuses a ≡ true → w ≡ worker_at (table_in t) n) → Stores t n (or_refused r (settled w a)) (record { table = put (table_in t) n w; answer = a })
+    pub stores_settled : (w : Worker) (a : Result Answer Refusal) → (refuses a ≡ true → w ≡ worker_at (table_in t) n) → Stores t n (settled r w a) (record { table = put (table_in t) n w; answer = a })
     stores_settled w (Ok a) same = stores_moved w a
     stores_settled w (Err why) same =
         let h = stores_refused why in

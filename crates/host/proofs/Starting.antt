@@ -22,18 +22,13 @@ use Rattle.border.specs.Packing.{packed_answer}
 use Rattle.border.specs.declared.kept.Kept.{Kept}
 use Rattle.border.specs.declared.kept.Record.{Record}
 use Rattle.host.specs.Promised.{TakesUp, TakesUpOne}
-use Rattle.host.specs.Moves.{refused, moved, or_refused}
+use Rattle.host.specs.Moves.{refused, entered}
 use Rattle.host.specs.declared.one.Moved.{Moved}
 use Rattle.host.proofs.Moves.{Stores, leaves, stores_refused, stores_moved, worker_is}
 
--- an admission, as the call goes on from it
-abbrev entered : Result Place Refusal → Result Moved Refusal
-entered (Ok place) = Ok (moved (bare place) (Going 0))
-entered (Err why) = Err why
-
 -- one record and the table
 stores_entered : (t : Kept) (n : ℕ) (r : Record) → record_at t (slot n) ≡ r → n < 8 → (C : Catalogue) (a : Result Place Refusal)
-    → Stores t n (or_refused r (entered a)) (outcome_of (admitted C (table_in t) n a))
+    → Stores t n (entered r a) (outcome_of (admitted C (table_in t) n a))
 stores_entered t n r there below C (Ok place) = stores_moved t n r there below (bare place) (Going 0)
 stores_entered t n r there below C (Err why) = stores_refused t n r there why
 
@@ -66,7 +61,7 @@ module _ (m : Memory) (count n : ℕ) (r : Record) (q : Request) (x : Moved) whe
         takes m t n q x _ _ e (stores_refused t n r there refusal.Worker) (taken_up m (table_in t) n q _ h (rw (ap (λ (i : ℕ). worker_fits i n) c ∙ f)))
 
     pub take_admitted : worker_fits count n ≡ true → (w : Worker) → w ≡ worker_in r → (a : Result Place Refusal) → a ≡ admit (view m) w.place q
-        → x ≡ or_refused r (entered a) → TakesUpOne m count n r q x
+        → x ≡ entered r a → TakesUpOne m count n r q x
     unfolding take_up
     take_admitted f w e a d y t c there =
         let here = e ∙ worker_is t n r there (worker_below count n f) in

@@ -22,9 +22,9 @@ use Rattle.border.specs.Packing.{packed_answer}
 use Rattle.border.specs.declared.kept.Kept.{Kept}
 use Rattle.border.specs.declared.kept.Record.{Record}
 use Rattle.host.specs.Promised.{refuses, Steps, StepsOne}
-use Rattle.host.specs.Moves.{refused, or_refused}
+use Rattle.host.specs.Moves.{refused, settled}
 use Rattle.host.specs.declared.one.Moved.{Moved}
-use Rattle.host.proofs.Moves.{Stores, settled, leaves, stores_refused, stores_settled, refused_stays, worker_is}
+use Rattle.host.proofs.Moves.{Stores, leaves, stores_refused, stores_settled, refused_stays, worker_is}
 
 -- the call on the table and what is stored back of its outcome
 steps : (m : Memory) (t : Kept) (n : ℕ) (x y : Moved) (o : Outcome) (keys : List ℤ) (words : List ℕ) → x ≡ y → Stores t n y o → table.Steps m (table_in t) n o keys words → Steps m t n x.told (put_record t (slot n) x.kept) keys words
@@ -53,7 +53,7 @@ module _ (keys : List ℤ) (words : List ℕ) (count n : ℕ) (r : Record) (x : 
           steps m t n x _ _ keys words q (stores_refused t n r there refusal.Idle)
           (left_idle keys words (table_in t) n _ h (ap (λ (i : ℕ). worker_fits i n) c ∙ f) (ap (λ (w : Worker). busy_at w.place) (sym here) ∙ g) refl)
 
-      pub one_stepped : busy_at w.place ≡ true → (s : Stepped) (keys' : List ℤ) (words' : List ℕ) → s ≡ stepped w (decide (view m) w) → x ≡ or_refused r (settled s.worker s.answer)
+      pub one_stepped : busy_at w.place ≡ true → (s : Stepped) (keys' : List ℤ) (words' : List ℕ) → s ≡ stepped w (decide (view m) w) → x ≡ settled r s.worker s.answer
           → Hold keys' words' (commit (view m) (write_of (decide (view m) w))) → StepsOne m count n r x keys' words'
       one_stepped g s keys' words' d q held t c there =
           let here = e ∙ worker_is t n r there (worker_below count n f) in

@@ -4,15 +4,16 @@ ghost use Rattle.catalogue.specs.Lent.{memory_of};
 ghost use Rattle.catalogue.specs.Workers.{asks};
 ghost use Rattle.border.specs.Kept.{slot};
 ghost use Rattle.host.specs.Promised.{StepsOne, TakesUpOne};
-ghost use Rattle.host.specs.Moves.{moved, or_refused};
+ghost use Rattle.host.specs.Moves.{moved, refused, settled, entered};
 
 use border::kept::Record;
 use border::packing::packed_answer;
 use calls::admit::admit;
-use calls::record::step_lent;
+use calls::record::step_record;
 use catalogue::answers::{Answer, Refusal};
-use catalogue::workers::{Pair, Request, Worker};
+use catalogue::workers::{Pair, Place, Request, Worker};
 use memory::checks::{lend, sized};
+use memory::{KEYS_SIZE, WORDS_SIZE};
 use workers::checks::worker_fits;
 use workers::records::bare;
 use workers::requests::busy_at;
@@ -31,17 +32,15 @@ pub fn slot(worker: u32) -> usize
     (worker % 8) as usize
 }
 
-// A refusal keeps the record unchanged.
+// A refusal keeps the record unchanged. A call returns it where it sees the reason: a result that held a record would be
+// cleared and copied on its way, at each step.
 #[tactic(auto, unfolding(crate::specs::Moves::refused))]
-fn or_refused(r: Record, made: Result<Moved, Refusal>) -> Moved
-    ensures { result ≡ or_refused r made }
+fn refuse(r: Record, refusal: Refusal) -> Moved
+    ensures { result ≡ refused r refusal }
 {
-    match made {
-        Ok(moved) => moved,
-        Err(refusal) => Moved {
-            kept: r,
-            told: packed_answer(Err(refusal)),
-        },
+    Moved {
+        kept: r,
+        told: packed_answer(Err(refusal)),
     }
 }
 
@@ -55,37 +54,48 @@ fn move_to(w: Worker, answer: Answer) -> Moved
     }
 }
 
-// The memory, the worker's number, then its place.
-#[tactic(auto, using(memory::proofs::Sizes::sizes))]
-fn step_busy(
-    keys: &mut [i32],
-    words: &mut [u32],
-    count: u32,
-    worker: u32,
-    r: Record,
-) -> Result<Moved, Refusal>
-    ensures { StepsOne (memory_of keys.old words.old) count worker r (or_refused r result) keys.new words.new }
+// A step that has decided, its refusals among the rest.
+fn settle(r: Record, w: Worker, answer: Result<Answer, Refusal>) -> Moved
+    ensures { result ≡ settled r w answer }
 {
-    sized(keys, words)?;
-    if !worker_fits(count, worker) {
-        return Err(Refusal::Worker);
+    match answer {
+        Ok(answer) => move_to(w, answer),
+        Err(refusal) => refuse(r, refusal),
     }
-    let w = Worker::from(r);
-    if !busy_at(w.place) {
-        return Err(Refusal::Idle);
-    }
-    let s = step_lent(keys, words, w);
-    Ok(move_to(s.worker, s.answer?))
 }
 
+// The memory, the worker's number, then its place.
+#[tactic(auto, using(memory::proofs::Sizes::sizes))]
 pub fn step_one(keys: &mut [i32], words: &mut [u32], count: u32, worker: u32, r: Record) -> Moved
     ensures { StepsOne (memory_of keys.old words.old) count worker r result keys.new words.new }
 {
-    or_refused(r, step_busy(keys, words, count, worker, r))
+    let Ok(()) = sized(keys, words) else {
+        return refuse(r, Refusal::Room);
+    };
+    if !worker_fits(count, worker) {
+        return refuse(r, Refusal::Worker);
+    }
+    let w = Worker::from(r);
+    if !busy_at(w.place) {
+        return refuse(r, Refusal::Idle);
+    }
+    let keys = keys.as_mut_array::<KEYS_SIZE>().unwrap();
+    let words = words.as_mut_array::<WORDS_SIZE>().unwrap();
+    let s = step_record(keys, words, w);
+    settle(r, s.worker, s.answer)
+}
+
+// Where the request begins, or a refusal.
+fn enter(r: Record, first: Result<Place, Refusal>) -> Moved
+    ensures { result ≡ entered r first }
+{
+    match first {
+        Ok(place) => move_to(bare(place), Answer::Going { met: 0 }),
+        Err(refusal) => refuse(r, refusal),
+    }
 }
 
 // The memory, the worker's number, then what `admit` looks at.
-#[tactic(auto, using(memory::proofs::Sizes::sizes))]
 fn take_up_admitted(
     keys: &[i32],
     words: &[u32],
@@ -93,16 +103,17 @@ fn take_up_admitted(
     worker: u32,
     r: Record,
     q: Request,
-) -> Result<Moved, Refusal>
-    ensures { TakesUpOne (memory_of keys.now words.now) count worker r q (or_refused r result) }
+) -> Moved
+    ensures { TakesUpOne (memory_of keys.now words.now) count worker r q result }
 {
-    let lent = lend(keys, words)?;
+    let Ok(lent) = lend(keys, words) else {
+        return refuse(r, Refusal::Room);
+    };
     if !worker_fits(count, worker) {
-        return Err(Refusal::Worker);
+        return refuse(r, Refusal::Worker);
     }
     let w = Worker::from(r);
-    let first = admit(lent, w.place, q)?;
-    Ok(move_to(bare(first), Answer::Going { met: 0 }))
+    enter(r, admit(lent, w.place, q))
 }
 
 // The catalogue is only read.
@@ -122,5 +133,5 @@ pub fn take_up_one(
         code,
         pair: Pair { k, l },
     };
-    or_refused(r, take_up_admitted(keys, words, count, worker, r, q))
+    take_up_admitted(keys, words, count, worker, r, q)
 }
