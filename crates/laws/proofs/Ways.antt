@@ -4,14 +4,19 @@
 -- and which constructor the result was taken apart into.
 use Prim.Native.Nat.{ℕ}
 use mathlib.Core.Bool.{Bool, true, false}
-use mathlib.Core.Path.{◌≡◌, refl, sym, ◌∙◌}
+use mathlib.Core.Path.{◌≡◌, refl, sym, ◌∙◌, ap, subst}
 use mir.Syntax.{w32}
 use mir.Val.{SFits, of_z, to_z}
+use lib.Dec.{eqb}
 use lib.IntN.{ℤ}
 use lib.Signed.{lt_z}
+use mathlib.Core.List.{List}
 use Rattle.catalogue.specs.Tests.{pick, eq_z}
 use Rattle.std.proofs.Common.{Option, Some, None}
+use Rattle.catalogue.specs.Calls.{worker_fits}
 use Rattle.catalogue.specs.Catalogue.{at_link}
+use Rattle.catalogue.specs.Numbers.{reserved}
+use Rattle.catalogue.specs.Workers.{has}
 use Rattle.catalogue.specs.declared.links.Link.{Link}
 use Rattle.laws.proofs.Rules.{tests, eq_z_true, eq_z_false, lt_z_is}
 
@@ -43,6 +48,30 @@ eq_z_read_false r a b e h = rw (← e) (eq_z_false r b h)
 -- what a test says, by the flag that a call of it answered
 pub flag : (a r t : Bool) → r ≡ a → r ≡ t → a ≡ t
 flag a r t e q = sym e ∙ q
+
+-- ---- for a way written by hand
+
+-- a signed argument reaches a callee through its bits, and means the same there
+pub arg : {A : Type 0} (f : ℤ → A) (r : A) (k k' : ℤ) → r ≡ f k' → k' ≡ k → r ≡ f k
+arg f r k k' e s = e ∙ ap f s
+
+-- a value l that the code knows as r, and r as the constructor s
+pub by : {A B : Type 0} (f : A → B) (l r s : A) (x : B) → r ≡ l → r ≡ s → x ≡ f s → x ≡ f l
+by f l r s x e q h = h ∙ ap f (sym q ∙ e)
+
+-- the arm of another number in a match on a number
+pub eqb_arm : (a b d : ℕ) → a ≡ d → eqb d b ≡ false → eqb a b ≡ false
+eqb_arm a b d e h = subst (λ (x : ℕ). eqb x b ≡ false) (sym e) h
+
+-- the flags of three calls
+pub met_is : (met : List ℕ) (n : ℕ) (r t : Bool) → r ≡ has met n → r ≡ t → has met n ≡ t
+met_is met n = flag (has met n)
+
+pub worker_flag : (count w : ℕ) (r t : Bool) → r ≡ worker_fits count w → r ≡ t → worker_fits count w ≡ t
+worker_flag count w = flag (worker_fits count w)
+
+pub reserved_is : (k k' : ℤ) (r t : Bool) → r ≡ reserved k' → k' ≡ k → r ≡ t → reserved k ≡ t
+reserved_is k k' r t e s = flag (reserved k) r t (arg reserved r k k' e s)
 
 pub ruleset ways = (
   refl,
