@@ -139,6 +139,7 @@ pub fn edge_target(words: &Words, n: u16) -> Option<u8>
 }
 
 // The vertex that is handed out next.
+#[tactic(auto, unfolding(catalogue::specs::Numbers::room))]
 pub fn vertex_room(words: &Words) -> Room
     ensures { result ≡ room 254 2 (vertex_count words.now) }
 {

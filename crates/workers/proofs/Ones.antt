@@ -1,5 +1,5 @@
 -- The ones of four words, summed: they are few, and they are the numbers in the set.
-use Rattle.std.proofs.Common.{ℕ, ◌+◌, ◌≡◌, ◌∙◌, ◌<◌, ◌^◌, List, [], ◌∷◌, length, sum_by, get_or, arith}
+use Rattle.std.proofs.Common.{ℕ, ◌+◌, ◌≡◌, sym, ◌∙◌, ◌<◌, ◌^◌, List, [], ◌∷◌, length, sum_by, get_or, arith}
 use mir.Syntax.{w64}
 use mir.Val.{Fits}
 use lib.Count.{ones, ones-le}
@@ -24,3 +24,9 @@ module _ (met : List ℕ) (long : length met ≡ 4)
 
   pub ones_count : sum_by ones met ≡ met_count met
   ones_count = sum_four met long ∙ count_is met h0.fits h1.fits h2.fits h3.fits
+
+-- The same of any four words that are those of a set.
+pub ones_same : (l met : List ℕ) → length l ≡ 4
+    → get_or l 0 0 ≡ get_or met 0 0 → get_or l 1 0 ≡ get_or met 1 0 → get_or l 2 0 ≡ get_or met 2 0 → get_or l 3 0 ≡ get_or met 3 0
+    → sum_by ones met ≡ met_count met → length met ≡ 4 → sum_by ones l ≡ met_count met
+ones_same l met long e0 e1 e2 e3 same own = sum_four l long ∙ rw (e0, e1, e2, e3) (sym (sum_four met own) ∙ same)
