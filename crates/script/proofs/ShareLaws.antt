@@ -73,6 +73,11 @@ pub starts_pair : (text : List ℕ) (count : ℕ) (counts : List ℕ) (n at : �
 unfolding starts_at
 starts_pair text count counts n at = refl
 
+-- behind no worker, what is found is all there is
+pub onto_none : (o : Read (List Share × ℕ)) → onto [] o ≡ o
+onto_none (bad n) = refl
+onto_none (good r) = refl
+
 onto_pair : (front : List Share) (s : Share) (o : Read (List Share × ℕ)) → onto (front ++ (s ∷ [])) o ≡ onto front (and_then o (λ r. good (s ∷ r.0, r.1)))
 onto_pair front s (bad n) = refl
 onto_pair front s (good r) = rw (append_assoc front (s ∷ []) r.0)

@@ -29,6 +29,7 @@ use Rattle.script.specs.declared.bad_line.BadLine.{BadLine}
 use Rattle.script.specs.declared.checks.Checked.{Checked}
 use Rattle.laws.proofs.Cases.{lt_or}
 use Rattle.script.proofs.ReadLaws.{line_read, skip_read}
+use Rattle.script.proofs.ShareLaws.{onto_none}
 use Rattle.script.proofs.StartLaws.{skipped_of, starts_skip, starts_first, starts_counts, starts_shares}
 use Rattle.script.proofs.TurnReads.{turns_read, turns_manned}
 use Rattle.script.proofs.GoodHeaders.{Headed, headed, sharing_first, few_workers, few_requests}
@@ -100,13 +101,8 @@ module _ (text : List ℕ) where
       k : Headed text h
       k = headed text o e h g
 
-      -- no worker stands before the first
       starts_are : starts_told h.workers sr ≡ starts_at text (counts text h k) 2 h.next
-      starts_are = asked ∙ by (starts_at text (counts text h k) 2 h.next)
-        where
-          by : (o : Read (List Share × ℕ)) → onto [] o ≡ o
-          by (bad n) = refl
-          by (good r) = refl
+      starts_are = asked ∙ onto_none (starts_at text (counts text h k) 2 h.next)
 
       requests_read : read_script text ≡ at_skipped (skipped_of (starts_told h.workers sr)) bad (scheduling text h k)
       requests_read = by_lines ∙ lines_read text h k ∙ rw (starts_skip text (counts text h k) 2 h.next, starts_are)

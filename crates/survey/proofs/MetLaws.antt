@@ -44,6 +44,14 @@ also_has met n y h low =
     (λ q. sym (ap (has (with_met met n)) (eqb-true y n q) ∙ with_met_same met n e (omega arith)))
     (λ q. sym (with_met_other met n e (omega arith) y (eqb-false y n q)))))
 
+-- where all pass, the set is that of all members, whatever the test
+pub met_whole : (test : ℕ → Bool) (l : List ℕ) → every test l ≡ true → met_of test l ≡ met_of (λ x. true) l
+unfolding met_of every
+met_whole test [] e = refl
+met_whole test (x ∷ l) e =
+    let both = both_true (test x) (every test l) e in
+    rw both.0 (ap (λ met. also_met met x) (met_whole test l both.1))
+
 pub met_member : (test : ℕ → Bool) (l : List ℕ) (y : ℕ) → every test l ≡ true → All (λ x. x < 256) l → has (met_of test l) y ≡ member y l
 unfolding met_of every member
 met_member test [] y e h = none_met y
